@@ -1,0 +1,9 @@
+-- The laws on the definitions of specs/, a module an idea; a module uses those above it.
+pub mod Cases
+pub mod Numbers
+pub mod Listing
+pub mod Periods
+pub mod Noholes
+pub mod Ranks
+pub mod Shifts
+pub mod Examples
