@@ -4,6 +4,7 @@ pub mod Numbers
 pub mod Listing
 pub mod Periods
 pub mod Noholes
+pub mod Rmin
 pub mod Ranks
 pub mod Shifts
 pub mod Examples

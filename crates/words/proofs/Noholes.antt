@@ -93,6 +93,12 @@ module _ (w : List ℕ) where
       let e : hmax w k ≡ p = eqb-true _ _ (K .found (omega arith)) in
       nohole-of k p l (rw e at (hmax-is k (K .from) h .longest (rw e l)))
 
+  pub kmin-hole : (p : ℕ) → length w < kmin w p → nohole w p ≡ false
+  kmin-hole p l = ⊎-elim (λ e. absurd (omega (arith, nohole-kmin p e))) (λ e. e) (true-or-false (nohole w p))
+
+  pub past-hole : (p : ℕ) → length w ≤ p → nohole w p ≡ false
+  past-hole p l = ⊎-elim (λ e. absurd (omega (arith, nohole-inside p e))) (λ e. e) (true-or-false (nohole w p))
+
   pub nohole-is : (p : ℕ) → nohole w p ≡ true → MaxPP (letter w) (kmin w p) p
   nohole-is p e =
       let k : ℕ = kmin w p in

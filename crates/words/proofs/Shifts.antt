@@ -1,15 +1,16 @@
 -- The shift and the next rank of each rank. Assumes nothing.
-use Prim.Native.Nat.{ℕ, suc, _+_, _-_, _≤_, _<_}
-use mathlib.Core.Path.{_≡_, refl}
+use Prim.Native.Nat.{ℕ, zero, suc, _+_, _-_, _≤_, _<_}
+use mathlib.Core.Path.{_≡_, refl, ap, _∙_}
 use mathlib.Core.Logic.{⊎-elim}
 use mathlib.Core.List.{List}
 use native.Mathlib.Omega.{arith}
 use lib.ListN.{length}
 use borrow.Author.Tests.{lt-ltb, le-ltb}
-use Rattle.words.specs.Tables.{below, noholes, place, kmin, rmin, shift, next}
+use Rattle.words.specs.Tables.{letter, hmax, below, noholes, place, kmin, rmin, shift, next}
 use Rattle.words.proofs.Cases.{less-or}
-use Rattle.words.proofs.Noholes.{nohole-is, rmin-is}
-use Rattle.words.proofs.Ranks.{below-le, nohole-rank, hole-rank}
+use Rattle.words.proofs.Periods.{MaxPP}
+use Rattle.words.proofs.Noholes.{Hmax, hmax-is, nohole-of, nohole-is, kmin-least, rmin-is}
+use Rattle.words.proofs.Ranks.{below-le, below-grows, below-nohole, NoholeRank, nohole-rank, hole-rank}
 
 module _ (w : List ℕ) where
   -- ---- By the kind of the rank
@@ -37,6 +38,59 @@ module _ (w : List ℕ) where
   pub next-hole : (i : ℕ) → noholes w ≤ i → next w i ≡ below w (length w - shift w i)
   unfolding next
   next-hole i l = rw (le-ltb i (noholes w) l, next) refl
+
+  -- ---- The first rank
+
+  -- Where there are noholes, the first is hmax(1): before it all letters are equal. So rank 0 shifts by 1, and goes on with rank 0.
+  module _ (any : 0 < noholes w) where
+    h : ℕ
+    h = place w 0
+
+    N : NoholeRank w 0 h
+    N = unfold h in nohole-rank w 0 any
+
+    M : MaxPP (letter w) (kmin w h) h
+    M = nohole-is w h (N .is)
+
+    H : Hmax w 1 (hmax w 1)
+    H = hmax-is w 1 (omega arith) (omega (arith, N .inside))
+
+    -- The first hmax(1) letters are all equal.
+    equal : (n x : ℕ) → n + x < hmax w 1 → letter w (n + x) ≡ letter w x
+    equal zero x l = ap (letter w) (omega arith)
+    equal (suc n) x l = H .periodic (n + x) (suc n + x) (omega arith) l ∙ equal n x (omega arith)
+
+    -- hmax(1) is not past h, which differs from an earlier letter,
+    not-past : hmax w 1 ≤ h
+    not-past = ⊎-elim
+        (λ (a : h < hmax w 1).
+        let x : ℕ = h - kmin w h in
+        let e : kmin w h + x ≡ h = omega (arith, M .from) in
+        absurd (M .breaks x (omega (arith, M .from)) (rw e at (equal (kmin w h) x (omega arith)))))
+        (λ (a : hmax w 1 ≤ h). a)
+        (less-or h (hmax w 1))
+
+    -- nor before it, since no nohole is.
+    not-before : h ≤ hmax w 1
+    not-before = ⊎-elim
+        (λ (a : hmax w 1 < h).
+        let y = nohole-of w 1 (hmax w 1) (omega (arith, N .inside)) (H .longest (omega (arith, N .inside))) in
+        absurd (omega (arith, below-nohole w (hmax w 1) y, below-grows w (suc (hmax w 1)) h a, N .index)))
+        (λ (a : h ≤ hmax w 1). a)
+        (less-or (hmax w 1) h)
+
+    first-kmin : kmin w h ≡ 1
+    first-kmin = ⊎-elim
+        (λ (a : 1 < kmin w h). absurd (kmin-least w h 1 (omega arith) a (omega (arith, not-past, not-before))))
+        (λ (a : kmin w h ≤ 1). omega (arith, M .positive))
+        (less-or 1 (kmin w h))
+
+    pub shift-first : shift w 0 ≡ 1
+    shift-first = shift-nohole 0 any ∙ unfold h in first-kmin
+
+    pub next-first : next w 0 ≡ 0
+    unfolding h
+    next-first = next-nohole 0 any ∙ omega (arith, below-grows w (h - kmin w h) h (omega arith), N .index)
 
   -- ---- Ranges
 

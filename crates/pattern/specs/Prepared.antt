@@ -1,0 +1,67 @@
+-- What preparation answers, and what it leaves in the scratch.
+use Prim.Native.Nat.{ℕ, suc}
+use mathlib.Core.Bool.{true, false}
+use mathlib.Core.List.{List, _++_}
+use lib.Dec.{eqb, ltb}
+use lib.ListN.{length, drop, replicate}
+use Rattle.words.specs.Tables as words
+use Rattle.pattern.specs.Lists.{tabulate, padded}
+use Rattle.pattern.specs.Marks.{markWord}
+use Rattle.pattern.specs.declared.Pattern.{Pattern}
+use Rattle.pattern.specs.declared.Refusal.{Refusal}
+use Rattle.pattern.specs.declared.Refusal.the-variants.{NoPattern, LongPattern, ShortScratch}
+use Rattle.pattern.specs.declared.Outcome.{Outcome}
+use Rattle.pattern.specs.declared.Outcome.the-variants.{Ready, Refused}
+use Rattle.pattern.specs.declared.Prepared.{Prepared}
+
+-- The prepared pattern of the bytes w: its tables, with zeros past the entries defined.
+unfoldable pub patternOf : List ℕ → Pattern
+unfolding tabulate padded markWord words.noholes words.order words.shift words.next
+patternOf w = record {
+  len = length w;
+  noholes = words.noholes w;
+  bytes = padded 256 w;
+  order = padded 256 (words.order w);
+  shift = padded 257 (tabulate (suc (length w)) (words.shift w));
+  next = padded 257 (tabulate (suc (length w)) (words.next w));
+  marks = tabulate 4 (markWord w);
+}
+
+-- The pattern beside a refusal.
+unfoldable pub zeroPattern : Pattern
+zeroPattern = record {
+  len = 0;
+  noholes = 0;
+  bytes = replicate 256 0;
+  order = replicate 256 0;
+  shift = replicate 257 0;
+  next = replicate 257 0;
+  marks = replicate 4 0;
+}
+
+unfoldable pub unprepared : Refusal → Prepared
+unfolding zeroPattern
+unprepared why = record { outcome = Refused why; pattern = zeroPattern }
+
+-- Tests 1, 2 and 3, in that order, of the bytes w and a scratch of n numbers: the first that holds is the answer.
+unfoldable pub outcomeOf : List ℕ → ℕ → Outcome
+outcomeOf w n = elim (eqb (length w) 0) [
+  | true ↦ Refused NoPattern
+  | false ↦ elim (ltb 256 (length w)) [
+    | true ↦ Refused LongPattern
+    | false ↦ elim (ltb n 771) [ true ↦ Refused ShortScratch | false ↦ Ready ]
+  ]
+]
+
+-- The answer to the bytes w and a scratch of n numbers.
+unfoldable pub prepared : List ℕ → ℕ → Prepared
+unfolding outcomeOf patternOf unprepared
+prepared w n = elim (outcomeOf w n) [
+  | Ready ↦ record { outcome = Ready; pattern = patternOf w }
+  | Refused why ↦ unprepared why
+]
+
+-- What a scratch then holds: zeros in its first 771 numbers after success, and what was lent after a refusal.
+unfoldable pub scratchAfter : List ℕ → List ℕ → List ℕ
+unfolding outcomeOf
+scratchAfter w s = elim (outcomeOf w (length s)) [ Ready ↦ replicate 771 0 ++ drop 771 s | Refused why ↦ s ]

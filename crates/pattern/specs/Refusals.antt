@@ -1,0 +1,12 @@
+-- The refusals by their numbers in document 01's table "Turned away".
+use Prim.Native.Nat.{ℕ}
+use Rattle.pattern.specs.declared.Refusal.{Refusal}
+use Rattle.pattern.specs.declared.Refusal.the-variants.{NoPattern, LongPattern, ShortScratch, FalsePattern, LongText, ShortInput}
+
+abbrev pub numberOf : Refusal → ℕ
+numberOf NoPattern = 1
+numberOf LongPattern = 2
+numberOf ShortScratch = 3
+numberOf FalsePattern = 4
+numberOf LongText = 5
+numberOf ShortInput = 6

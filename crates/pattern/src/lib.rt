@@ -1,0 +1,128 @@
+// A pattern prepared for search: document 01's card, its preparation, and the test behind refusal 4.
+mod build;
+mod check;
+mod counts;
+mod entries;
+mod hmax;
+mod kmin;
+mod marks;
+mod ranks;
+
+ghost use mathlib.Core.Path.{_≡_};
+ghost use mathlib.Core.Bool.{true};
+ghost use mathlib.Core.Logic.{_↔_};
+ghost use lib.ListN.{length};
+ghost use Rattle.pattern.specs.Refusals.{numberOf};
+ghost use Rattle.pattern.specs.Prepared.{prepared, scratchAfter, unprepared};
+ghost use Rattle.pattern.specs.Check.{isPrepared, IsPrepared};
+
+// Document 01's card: the pattern and its tables. The entries past those defined are 0.
+pub struct Pattern {
+    // m, from 1 to 256
+    pub len: usize,
+    // d
+    pub noholes: usize,
+    // m bytes
+    pub bytes: [u8; 256],
+    // the place of each rank: m entries
+    pub order: [u8; 256],
+    // of each rank, and of rank m: m + 1 entries each
+    pub shift: [u16; 257],
+    pub next: [u16; 257],
+    // the nohole marks: place p at bit p mod 64 of word p div 64
+    pub marks: [u64; 4],
+}
+
+// Document 01, "Turned away": a variant for each row.
+pub enum Refusal {
+    NoPattern,
+    LongPattern,
+    ShortScratch,
+    FalsePattern,
+    LongText,
+    ShortInput,
+}
+
+impl Refusal {
+    // Its number in the table.
+    pub fn number(self) -> u8
+        ensures { λ r. ⌜ r ≡ numberOf self ⌝ }
+    {
+        match self {
+            Refusal::NoPattern => 1,
+            Refusal::LongPattern => 2,
+            Refusal::ShortScratch => 3,
+            Refusal::FalsePattern => 4,
+            Refusal::LongText => 5,
+            Refusal::ShortInput => 6,
+        }
+    }
+}
+
+pub enum Outcome {
+    Ready,
+    Refused(Refusal),
+}
+
+// The answer of preparation: the pattern beside a refusal is all zero.
+pub struct Prepared {
+    pub outcome: Outcome,
+    pub pattern: Pattern,
+}
+
+fn refused(why: Refusal) -> Prepared
+    ensures { λ r. ⌜ r ≡ unprepared why ⌝ }
+{
+    let pattern = Pattern {
+        len: 0,
+        noholes: 0,
+        bytes: [0u8; 256],
+        order: [0u8; 256],
+        shift: [0u16; 257],
+        next: [0u16; 257],
+        marks: [0u64; 4],
+    };
+    Prepared {
+        outcome: Outcome::Refused(why),
+        pattern,
+    }
+}
+
+// Prepares a pattern for search. Refused, in this order: no byte (1), more than 256 bytes (2), a scratch of fewer than 771
+// numbers (3). On success the first 771 numbers of the scratch are 0 and the rest unchanged; on a refusal it is unchanged.
+pub fn prepare(bytes: &[u8], scratch: &mut [u16]) -> Prepared
+    ensures answer { λ r. ⌜ r ≡ prepared (now (bytes .entry)) (length (now (scratch .entry))) ⌝ }
+    ensures scratched { λ r. ⌜ now (scratch .exit) ≡ scratchAfter (now (bytes .entry)) (now (scratch .entry)) ⌝ }
+{
+    if bytes.len() == 0 {
+        return refused(Refusal::NoPattern);
+    }
+    if 256 < bytes.len() {
+        return refused(Refusal::LongPattern);
+    }
+    if scratch.len() < 771 {
+        return refused(Refusal::ShortScratch);
+    }
+    let pattern = build::build(bytes, scratch);
+    entries::fill(&mut scratch[..771], 0);
+    Prepared {
+        outcome: Outcome::Ready,
+        pattern,
+    }
+}
+
+// Whether a pattern, whatever it holds, is what preparation gives for its own length and bytes.
+pub fn is_prepared(pattern: Pattern) -> bool
+    ensures test { λ r. ⌜ r ≡ isPrepared pattern ⌝ }
+    ensures meaning { λ r. ⌜ ((r ≡ true) ↔ IsPrepared pattern) ⌝ }
+{
+    let len = pattern.len;
+    if len == 0 {
+        return false;
+    }
+    if 256 < len {
+        return false;
+    }
+    let own = check::prepared_again(&pattern.bytes, len);
+    check::same_pattern(pattern, own)
+}
