@@ -14,8 +14,8 @@ use Rattle.pattern.specs.Prepared.{patternOf, unprepared, outcomeOf, pre
 use Rattle.pattern.specs.Internal.Scratch.{RestKept}
 use Rattle.pattern.specs.Internal.Ranked.{RankedAll}
 use Rattle.pattern.specs.declared.Pattern.{Pattern}
-use Rattle.pattern.specs.declared.Refusal.{Refusal}
-use Rattle.pattern.specs.declared.Refusal.the-variants.{NoPattern, LongPattern, ShortScratch}
+use Rattle.refusal.specs.declared.Refusal.{Refusal}
+use Rattle.refusal.specs.declared.Refusal.the-variants.{NoPattern, LongPattern, ShortScratch}
 use Rattle.pattern.specs.declared.Outcome.the-variants.{Ready, Refused}
 use Rattle.pattern.specs.declared.Prepared.{Prepared}
 use Rattle.pattern.proofs.Ranked.{places-order}

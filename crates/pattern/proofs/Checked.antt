@@ -11,7 +11,7 @@ use Rattle.words.proofs.Cases.{less-or, not-both}
 use Rattle.pattern.specs.Prepared.{patternOf, unprepared, outcomeOf}
 use Rattle.pattern.specs.Check.{ownBytes, samePattern, preparedAgain, isPrepared, IsPrepared}
 use Rattle.pattern.specs.declared.Pattern.{Pattern}
-use Rattle.pattern.specs.declared.Refusal.{Refusal}
+use Rattle.refusal.specs.declared.Refusal.{Refusal}
 use Rattle.pattern.specs.declared.Outcome.{Outcome}
 use Rattle.pattern.specs.declared.Outcome.the-variants.{Ready, Refused}
 use Rattle.pattern.specs.declared.Prepared.{Prepared}

@@ -1,7 +1,6 @@
 -- What a reader must believe; Internal holds what only the functions within the crate promise each other.
 pub mod Lists
 pub mod Marks
-pub mod Refusals
 pub mod Prepared
 pub mod Check
 pub mod Internal

@@ -8,11 +8,11 @@ mod kmin;
 mod marks;
 mod ranks;
 
+pub use refusal::Refusal;
 ghost use mathlib.Core.Path.{_≡_};
 ghost use mathlib.Core.Bool.{true};
 ghost use mathlib.Core.Logic.{_↔_};
 ghost use lib.ListN.{length};
-ghost use Rattle.pattern.specs.Refusals.{numberOf};
 ghost use Rattle.pattern.specs.Prepared.{prepared, scratchAfter, unprepared};
 ghost use Rattle.pattern.specs.Check.{isPrepared, IsPrepared};
 
@@ -31,32 +31,6 @@ pub struct Pattern {
     pub next: [u16; 257],
     // the nohole marks: place p at bit p mod 64 of word p div 64
     pub marks: [u64; 4],
-}
-
-// Document 01, "Turned away": a variant for each row.
-pub enum Refusal {
-    NoPattern,
-    LongPattern,
-    ShortScratch,
-    FalsePattern,
-    LongText,
-    ShortInput,
-}
-
-impl Refusal {
-    // Its number in the table.
-    pub fn number(self) -> u8
-        ensures { λ r. ⌜ r ≡ numberOf self ⌝ }
-    {
-        match self {
-            Refusal::NoPattern => 1,
-            Refusal::LongPattern => 2,
-            Refusal::ShortScratch => 3,
-            Refusal::FalsePattern => 4,
-            Refusal::LongText => 5,
-            Refusal::ShortInput => 6,
-        }
-    }
 }
 
 pub enum Outcome {

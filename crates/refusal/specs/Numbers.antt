@@ -1,7 +1,7 @@
 -- The refusals by their numbers in document 01's table "Turned away".
 use Prim.Native.Nat.{ℕ}
-use Rattle.pattern.specs.declared.Refusal.{Refusal}
-use Rattle.pattern.specs.declared.Refusal.the-variants.{NoPattern, LongPattern, ShortScratch, FalsePattern, LongText, ShortInput}
+use Rattle.refusal.specs.declared.Refusal.{Refusal}
+use Rattle.refusal.specs.declared.Refusal.the-variants.{NoPattern, LongPattern, ShortScratch, FalsePattern, LongText, ShortInput}
 
 abbrev pub numberOf : Refusal → ℕ
 numberOf NoPattern = 1

@@ -1,0 +1,8 @@
+-- What a reader must believe; Internal holds what only functions that follow the rules promise each other.
+pub mod Occurs
+pub mod Rules
+pub mod Colussi
+pub mod Kmp
+pub mod Report
+pub mod Promise
+pub mod Internal
