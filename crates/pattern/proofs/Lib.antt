@@ -9,5 +9,6 @@ pub mod Bits
 pub mod Same
 pub mod Answers
 pub mod Checked
+pub mod Again
 pub mod Reading
 pub mod Examples

@@ -1,0 +1,74 @@
+-- The search for bytes that were just prepared is never refused, and its list begins with what it found. Assumes nothing.
+use Prim.Native.Nat.{ℕ, _≤_}
+use mathlib.Core.Path.{_≡_, refl, sym, ap, _∙_}
+use mathlib.Core.List.{List}
+use native.Mathlib.Omega.{arith}
+use lib.ListN.{length, take, drop, length-append}
+use lib.Seq.{take-append-seam}
+use Rattle.pattern.specs.Prepared.{patternOf, prepared}
+use Rattle.pattern.specs.declared.Prepared.{Prepared}
+use Rattle.refusal.specs.declared.Refusal.{Refusal}
+use Rattle.pattern.proofs.Answers.{ready, ready-answer}
+use Rattle.pattern.proofs.Again.{own-bytes, prepared-again}
+use Rattle.rules.specs.Rules.{End}
+use Rattle.rules.specs.Colussi.{colussi}
+use Rattle.rules.specs.Report.{reportOf, filled}
+use Rattle.rules.specs.declared.Report.{Report}
+use Rattle.search.specs.Answer.{answerBy, listBy}
+use Rattle.search.specs.declared.SearchAnswer.{SearchAnswer}
+use Rattle.search.specs.declared.SearchAnswer.the-variants.{Ran, Refused}
+use Rattle.search.proofs.Answers.{ran}
+use Rattle.job.specs.Printed.{report-lines, search-lines}
+
+-- ---- A search that ran
+
+-- A report is that of a search, and a list begins with the positions found.
+pub record Found (s : End) (r : Report) (list : List ℕ) : Type 0 where
+  pub report : r ≡ reportOf s
+  pub inside : r .written ≤ length list
+  pub positions : take (r .written) list ≡ s .last .found
+
+found-filled : (s : End) (lent : List ℕ) → Found s (reportOf s) (filled s lent)
+unfolding reportOf filled
+found-filled s lent =
+    let found : List ℕ = s .last .found in
+    let rest : List ℕ = drop (length found) lent in
+    record { report = refl; inside = omega (arith, length-append found rest); positions = take-append-seam found rest }
+
+module _ (s : End) {a : SearchAnswer} (answered : a ≡ Ran (reportOf s)) where
+  pub found : {r : Report} (lent : List ℕ) {after : List ℕ} → after ≡ filled s lent → a ≡ Ran r → Found s r after
+  found {r = r} lent f e = let same : r ≡ reportOf s = cc in rw (same, f) (found-filled s lent)
+
+  pub not-refused : {why : Refusal} → a ≡ Refused why → ⊥
+  not-refused e = let z : _≡_ {A = ℕ} 0 1 = cc in omega arith
+
+-- ---- Its lines
+
+lines-of-search : (s : End) → search-lines s ≡ report-lines (s .ending) (length (s .last .made)) (s .last .found)
+unfolding search-lines
+lines-of-search s = refl
+
+pub lines-of-found : {s : End} {r : Report} {list : List ℕ} → Found s r list
+    → report-lines (r .ending) (r .count) (take (r .written) list) ≡ search-lines s
+unfolding reportOf
+lines-of-found {s = s} F = rw (F .positions, F .report) (sym (lines-of-search s))
+
+-- ---- The search for bytes that were just prepared
+
+module _ (w t : List ℕ) (some : 1 ≤ length w) (short : length w ≤ 256) (fits : length t ≤ 16777216)
+    {q : Prepared} (ready-made : q ≡ prepared w 771) (cap : ℕ) (lent : List ℕ) where
+  pattern-is : q .pattern ≡ patternOf w
+  pattern-is = ap (λ (a : Prepared). a .pattern) (ready-made ∙ ready-answer w 771 (ready w 771 some short (omega arith)))
+
+  runs : answerBy colussi (q .pattern) t cap (length lent) ≡ Ran (reportOf (colussi w t cap (length lent)))
+  runs = rw pattern-is (rw (own-bytes w) at (ran colussi (patternOf w) t cap (length lent) (prepared-again w some short) fits))
+
+  fills : listBy colussi (q .pattern) t cap lent ≡ filled (colussi w t cap (length lent)) lent
+  unfolding listBy
+  fills = rw (runs, pattern-is, own-bytes w, listBy) refl
+
+  -- What it answers, and what it leaves in the list.
+  pub prepared-runs : {a : SearchAnswer} {after : List ℕ}
+      → a ≡ answerBy colussi (q .pattern) t cap (length lent) → after ≡ listBy colussi (q .pattern) t cap lent
+      → (a ≡ Ran (reportOf (colussi w t cap (length lent)))) × (after ≡ filled (colussi w t cap (length lent)) lent)
+  prepared-runs e l = (e ∙ runs, l ∙ fills)

@@ -1,0 +1,64 @@
+-- What the program prints for an input, as document 01 gives it ("The program").
+use Prim.Native.Nat.{ℕ, suc, _+_}
+use Prim.Native.String.{String}
+use mathlib.Core.Bool.{true, false}
+use mathlib.Core.List.{List, [], _∷_, _++_}
+use lib.Dec.{eqb, ltb}
+use lib.ListN.{length, getD, take, drop}
+use Rattle.refusal.specs.Numbers.{numberOf}
+use Rattle.refusal.specs.declared.Refusal.{Refusal}
+use Rattle.refusal.specs.declared.Refusal.the-variants.{NoPattern, LongText, ShortInput}
+use Rattle.rules.specs.Rules.{End}
+use Rattle.rules.specs.Colussi.{colussi}
+use Rattle.rules.specs.declared.Ending.{Ending}
+use Rattle.rules.specs.declared.Ending.the-variants.{Done, Spent, Full}
+use Rattle.charge.specs.Charged.{charged}
+use Rattle.job.specs.Text.{ascii, decimal}
+
+-- A word, a number in decimal and a newline.
+unfoldable pub line : String → ℕ → List ℕ
+unfolding ascii decimal
+line word n = ascii word ++ (decimal n ++ ascii "\n")
+
+unfoldable pub refused-line : Refusal → List ℕ
+unfolding line
+refused-line why = line "refused " (numberOf why)
+
+unfoldable pub ending-line : Ending → List ℕ
+unfolding line
+ending-line Done = ascii "end done\n"
+ending-line (Spent b) = line "end spent at " b
+ending-line (Full b) = line "end full at " b
+
+-- One position a line.
+unfoldable pub position-lines : List ℕ → List ℕ
+unfolding line
+position-lines [] = []
+position-lines (p ∷ ps) = line "" p ++ position-lines ps
+
+-- The ending, the count, the charge, the number of positions, then the positions.
+unfoldable pub report-lines : Ending → ℕ → List ℕ → List ℕ
+unfolding ending-line line charged position-lines
+report-lines ending count positions =
+    ending-line ending ++ (line "count " count ++ (line "charge " (charged count) ++ (line "places " (length positions) ++ position-lines positions)))
+
+unfoldable pub search-lines : End → List ℕ
+unfolding report-lines
+search-lines s = report-lines (s .ending) (length (s .last .made)) (s .last .found)
+
+-- The input is one length byte L, L pattern bytes, and the text to the end; empty input has L = 0. Tests 1, 6 and 5, in that order; then the
+-- search in Colussi's order, with the cap 2^64 - 1 and a list of 8,192 entries.
+unfoldable pub printed : List ℕ → List ℕ
+unfolding refused-line search-lines colussi
+printed input =
+    let L : ℕ = getD input 0 0 in
+    elim (eqb L 0) [
+      | true ↦ refused-line NoPattern
+      | false ↦ elim (ltb (length input) (suc L)) [
+        | true ↦ refused-line ShortInput
+        | false ↦ elim (ltb 60000 (length (drop (suc L) input))) [
+          | true ↦ refused-line LongText
+          | false ↦ search-lines (colussi (take L (drop 1 input)) (drop (suc L) input) 18446744073709551615 8192)
+        ]
+      ]
+    ]

@@ -1,0 +1,61 @@
+// The program's work: from the input's bytes to the bytes to print.
+mod lines;
+mod text;
+
+use refusal::Refusal;
+use search::SearchAnswer;
+ghost use mathlib.Core.Path.{_≡_};
+ghost use Prim.Native.Nat.{_≤_};
+ghost use lib.ListN.{length};
+ghost use Rattle.rules.specs.Colussi.{colussi};
+ghost use Rattle.job.specs.Printed.{search-lines};
+ghost use Rattle.job.specs.Answer.{answerOf, bufferAfter};
+ghost use Rattle.job.specs.Internal.Writing.{Puts};
+
+// The number of bytes written, or that the buffer is too short for the longest output.
+pub enum JobAnswer {
+    Wrote(usize),
+    ShortBuffer,
+}
+
+// A pattern of 1 to 255 bytes in a text of at most 60,000: searched, and its report written.
+fn searched(bytes: &[u8], text: &[u8], out: &mut [u8]) -> usize
+    requires { ⌜ (1 ≤ length (now bytes)) × (length (now bytes) ≤ 256) × (length (now text) ≤ 60000) × (196608 ≤ length (now out)) ⌝ }
+    ensures { λ r. ⌜ Puts (now (out .entry)) (now (out .exit)) 0 (search-lines (colussi (now (bytes .entry)) (now (text .entry)) 18446744073709551615 8192)) r ⌝ }
+{
+    let mut scratch = [0u16; 771];
+    let prepared = pattern::prepare(bytes, &mut scratch);
+    let mut positions = [0u32; 8192];
+    let answer = search::colussi(prepared.pattern, text, 18446744073709551615, &mut positions);
+    match answer {
+        SearchAnswer::Ran(report) => lines::put_report(out, report, &positions),
+        SearchAnswer::Refused(why) => lines::put_refused(out, why),
+    }
+}
+
+// Writes what document 01 prints for the input at the start of the buffer, which needs 196,608 bytes; the rest of it is unchanged. A
+// shorter buffer is unchanged.
+pub fn job(input: &[u8], out: &mut [u8]) -> JobAnswer
+    ensures answer { λ r. ⌜ r ≡ answerOf (now (input .entry)) (length (now (out .entry))) ⌝ }
+    ensures buffer { λ r. ⌜ now (out .exit) ≡ bufferAfter (now (input .entry)) (now (out .entry)) ⌝ }
+{
+    if out.len() < 196608 {
+        return JobAnswer::ShortBuffer;
+    }
+    if input.len() == 0 {
+        return JobAnswer::Wrote(lines::put_refused(out, Refusal::NoPattern));
+    }
+    let len = text::wide(input[0]);
+    if len == 0 {
+        return JobAnswer::Wrote(lines::put_refused(out, Refusal::NoPattern));
+    }
+    let end = 1 + len;
+    if input.len() < end {
+        return JobAnswer::Wrote(lines::put_refused(out, Refusal::ShortInput));
+    }
+    let rest = &input[end..];
+    if 60000 < rest.len() {
+        return JobAnswer::Wrote(lines::put_refused(out, Refusal::LongText));
+    }
+    JobAnswer::Wrote(searched(&input[1..end], rest, out))
+}
