@@ -1,5 +1,5 @@
 -- `motif::read_all` ends and stays within its buffer. The loop's invariant: n is within the buffer, which keeps its length. The measure is
--- what is left of it. Assumes nothing.
+-- what is left of it. It rests on what C's `read` is assumed to promise.
 use Prim.Native.Nat.{_≤_, _-_}
 use mathlib.Core.Path.{_≡_}
 use lib.ListN.{length}
