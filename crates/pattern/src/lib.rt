@@ -17,6 +17,7 @@ ghost use Rattle.pattern.specs.Prepared.{prepared, scratchAfter, unprepa
 ghost use Rattle.pattern.specs.Check.{isPrepared, IsPrepared};
 
 // Document 01's card: the pattern and its tables. The entries past those defined are 0.
+#[repr(C)]
 pub struct Pattern {
     // m, from 1 to 256
     pub len: usize,

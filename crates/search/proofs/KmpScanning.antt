@@ -10,6 +10,7 @@ use lib.ListN.{length, getD, take, set, length-set}
 use lib.Seq.{length-take-le, getD-take}
 use Rattle.words.specs.Tables.{nohole, noholes, place, rank, shift}
 use Rattle.words.proofs.Cases.{less-or, true-or-false}
+use Rattle.words.proofs.Noholes.{zero-hole}
 use Rattle.words.proofs.Ranks.{NoholeRank, nohole-rank, place-rank, nohole-early}
 use Rattle.words.proofs.Shifts.{shift-nohole, shift-last}
 use Rattle.pattern.proofs.Stores.{after-store}
@@ -17,11 +18,13 @@ use Rattle.rules.specs.Rules.{edge-after}
 use Rattle.rules.specs.Kmp.{kmp-shift, kmp-plan, kmp}
 use Rattle.rules.specs.Internal.Passing.{Due}
 use Rattle.rules.specs.Report.{Reported}
+use Rattle.search.specs.Internal.Misses.{Ahead}
 use Rattle.search.specs.Internal.KmpScanning.{HoleShifts, KmpShifts}
 use Rattle.rules.specs.declared.Ending.the-variants.{Done, Spent, Full}
 use Rattle.rules.proofs.KmpMethod.{kmp-shift-nohole, kmp-shift-hole, kmp-shift-last, kmp-shift-moves, edge-stays}
 use Rattle.rules.proofs.Passing.{passes-matched, passes-missed}
 use Rattle.rules.proofs.Following.{Ranges, Follows, follows-on, follows-listed, reports-done, reports-spent, reports-full}
+use Rattle.search.proofs.Missing.{ByOne, passes-ahead}
 
 -- ---- The table of shifts
 
@@ -85,6 +88,17 @@ kmp-ranges w some = record {
   nexts = λ i l. omega arith;
 }
 
+-- A window that misses at rank 0, a hole, is left by 1.
+by-one : (w : List ℕ) → 1 ≤ length w → ByOne (kmp-plan w) w
+unfolding kmp-plan
+by-one w some = record {
+  some = some;
+  moving = λ i l. kmp-shift-moves w i some l .on;
+  shift = kmp-shift-hole w 0 some (zero-hole w);
+  next = omega arith;
+  early = omega arith;
+}
+
 -- The first m bytes, with a table of their shifts.
 module _ (bytes shifts : List ℕ) (m : ℕ) (sizes : (1 ≤ m) × (m ≤ 256) × (m ≤ length bytes)) (K : KmpShifts (take m bytes) shifts) where
   word : length (take m bytes) ≡ m
@@ -112,6 +126,17 @@ module _ (bytes shifts : List ℕ) (m : ℕ) (sizes : (1 ≤ m) × (m ≤ 256) �
         → Reported (kmp (take m bytes) text cap (length before)) before after record { ending = Done; count = c; written = k }
     unfolding kmp
     scan-done l = reports-done _ _ text cap before R after b i 0 c k F (omega (arith, word))
+
+    -- Past the windows that miss at rank 0.
+    pub scan-ahead : {x last b' i' c' : ℕ} → Ahead text x 0 last cap b c b' i' c' → last + m ≡ length text → i ≡ 0 → x ≡ getD bytes 0 0
+        → Follows (kmp-plan (take m bytes)) (take m bytes) text cap before after b' i' 0 c' k
+    unfolding kmp-plan
+    scan-ahead A ends first is =
+        let G : Follows (kmp-plan (take m bytes)) (take m bytes) text cap before after b 0 0 c k = rw first at F in
+        follows-on _ _ text cap before R after b 0 0 c k G
+        (passes-ahead (kmp-plan (take m bytes)) (take m bytes) text (by-one (take m bytes) (R .some)) A (omega (arith, word)) refl
+        (getD-take m bytes 0 0 (sizes .0) ∙ sym is) 0 (omega arith))
+        (omega (arith, A .upto, sizes .0)) (omega (arith, A .rank, R .some)) (A .capped)
 
     module _ (fits : b + m ≤ length text) where
       inside : b + length (take m bytes) ≤ length text

@@ -2,6 +2,7 @@
 // counts.
 use super::entries::wide8;
 use super::entries::wide16;
+use super::misses::ahead;
 use rules::Ending;
 use rules::Report;
 ghost use mathlib.Core.Path.{_≡_};
@@ -71,11 +72,19 @@ pub fn scan(
     requires { ⌜ length (now text) < 2 ^ 32 ⌝ }
     ensures { λ r. ⌜ Reported (kmp (take m (now (bytes .entry))) (now (text .entry)) cap (length (now (positions .entry)))) (now (positions .entry)) (now (positions .exit)) r ⌝ }
 {
+    if text.len() < m {
+        return Report {
+            ending: Ending::Done,
+            count: 0,
+            written: 0,
+        };
+    }
+    let last = text.len() - m;
     let mut b: usize = 0;
     let mut i: usize = 0;
     let mut c: u64 = 0;
     let mut k: usize = 0;
-    while b + m <= text.len() {
+    while b <= last {
         if i < m {
             if c == cap {
                 return Report {
@@ -87,25 +96,31 @@ pub fn scan(
             c += 1;
             if bytes[i] == text[b + i] {
                 i += 1;
-                continue;
+            } else {
+                let s = wide16(shifts[i]);
+                b += s;
+                i = less(i, s);
+                if (i == 0) & (b <= last) {
+                    let spot = ahead(text, bytes[0], 0, last, b, c, cap);
+                    b = spot.window;
+                    i = spot.rank;
+                    c = spot.count;
+                }
             }
-            let s = wide16(shifts[i]);
+        } else {
+            if k == positions.len() {
+                return Report {
+                    ending: Ending::Full(b),
+                    count: c,
+                    written: k,
+                };
+            }
+            positions[k] = b as u32;
+            k += 1;
+            let s = wide16(shifts[m]);
             b += s;
-            i = less(i, s);
-            continue;
+            i = less(m, s);
         }
-        if k == positions.len() {
-            return Report {
-                ending: Ending::Full(b),
-                count: c,
-                written: k,
-            };
-        }
-        positions[k] = b as u32;
-        k += 1;
-        let s = wide16(shifts[m]);
-        b += s;
-        i = less(m, s);
     }
     Report {
         ending: Ending::Done,

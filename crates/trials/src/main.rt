@@ -1,4 +1,4 @@
-// Runs both searches on the worked records of document 01, and on generated patterns and texts against a naive search.
+// Runs both searches on generated patterns and texts against a naive search.
 mod cases;
 mod draw;
 mod judge;
@@ -6,7 +6,6 @@ mod letters;
 mod limits;
 mod naive;
 mod print;
-mod records;
 mod tally;
 mod trial;
 
@@ -25,7 +24,6 @@ fn run_cases() -> Totals {
 }
 
 fn main() {
-    records::show_all();
     print::number(CASES);
     print::line(b" patterns, each with a text");
     run_cases().show();

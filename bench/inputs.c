@@ -1,0 +1,203 @@
+#include "inputs.h"
+
+#include <string.h>
+
+/* Marsaglia's xorshift by 13, 7 and 17. */
+static uint64_t state = 1;
+
+static uint64_t draw(void)
+{
+    state ^= state << 13;
+    state ^= state >> 7;
+    state ^= state << 17;
+    return state;
+}
+
+void seed(uint64_t number)
+{
+    state = number + 88172645463325252u;
+    for (int i = 0; i < 16; i++) /* near seeds begin with near numbers */
+        draw();
+}
+
+/* A number less than `bound`, which is small: the unevenness of scaling 32 bits down is of no account. */
+static size_t below(size_t bound)
+{
+    return (size_t)((draw() >> 32) * bound >> 32);
+}
+
+static void random_letters(uint8_t *bytes, size_t len, unsigned letters, uint8_t first)
+{
+    for (size_t i = 0; i < len; i++)
+        bytes[i] = (uint8_t)(first + below(letters));
+}
+
+void random_256(uint8_t *bytes, size_t m)
+{
+    random_letters(bytes, m, 256, 0);
+}
+
+void random_4(uint8_t *bytes, size_t m)
+{
+    random_letters(bytes, m, 4, 'a');
+}
+
+void random_2(uint8_t *bytes, size_t m)
+{
+    random_letters(bytes, m, 2, 'a');
+}
+
+void one_letter(uint8_t *bytes, size_t m)
+{
+    memset(bytes, 'a', m);
+}
+
+static void one_differs(uint8_t *bytes, size_t m, size_t place)
+{
+    memset(bytes, 'a', m);
+    bytes[place] = 'b';
+}
+
+void last_differs(uint8_t *bytes, size_t m)
+{
+    one_differs(bytes, m, m - 1);
+}
+
+void second_differs(uint8_t *bytes, size_t m)
+{
+    one_differs(bytes, m, m > 1 ? 1 : 0);
+}
+
+void middle_differs(uint8_t *bytes, size_t m)
+{
+    one_differs(bytes, m, (m - 1) / 2);
+}
+
+static void repeat(const uint8_t *cycle, size_t len, uint8_t *to, size_t n)
+{
+    for (size_t i = 0, p = 0; i < n; i++) {
+        to[i] = cycle[p];
+        p = p + 1 < len ? p + 1 : 0;
+    }
+}
+
+void period_3(uint8_t *bytes, size_t m)
+{
+    repeat((const uint8_t *)"aab", 3, bytes, m);
+}
+
+/* Each Fibonacci word is the last followed by the one before: after the first two letters, what is written so far is copied
+   from its own start, one shorter word at a time. */
+static void fibonacci_word(uint8_t *to, size_t n)
+{
+    size_t len = 1, last = 1;
+    to[0] = 'a';
+    if (n > 1) {
+        to[1] = 'b';
+        len = 2;
+    }
+    while (len < n) {
+        size_t piece = last < n - len ? last : n - len;
+        memcpy(to + len, to, piece);
+        last = len;
+        len += piece;
+    }
+}
+
+void fibonacci(uint8_t *bytes, size_t m)
+{
+    fibonacci_word(bytes, m);
+}
+
+/* The levels of four reflections that two parallel walls throw back and forth. */
+static const uint8_t cycle[4] = {142, 37, 96, 37};
+
+void flutter(uint8_t *bytes, size_t m)
+{
+    repeat(cycle, sizeof cycle, bytes, m);
+}
+
+/* A copy of the pattern in every block, so that there is something to find. */
+static void planted_text(const uint8_t *bytes, size_t m, uint8_t *text, size_t n, unsigned letters, uint8_t first)
+{
+    const size_t block = 4096;
+    random_letters(text, n, letters, first);
+    for (size_t at = 0; at + block <= n; at += block)
+        memcpy(text + at + below(block - m), bytes, m);
+}
+
+void text_of_256(const uint8_t *bytes, size_t m, uint8_t *text, size_t n)
+{
+    planted_text(bytes, m, text, n, 256, 0);
+}
+
+void text_of_4(const uint8_t *bytes, size_t m, uint8_t *text, size_t n)
+{
+    planted_text(bytes, m, text, n, 4, 'a');
+}
+
+void text_of_2(const uint8_t *bytes, size_t m, uint8_t *text, size_t n)
+{
+    planted_text(bytes, m, text, n, 2, 'a');
+}
+
+void equal_text(const uint8_t *bytes, size_t m, uint8_t *text, size_t n)
+{
+    (void)bytes, (void)m;
+    memset(text, 'a', n);
+}
+
+void fibonacci_text(const uint8_t *bytes, size_t m, uint8_t *text, size_t n)
+{
+    (void)bytes, (void)m;
+    fibonacci_word(text, n);
+}
+
+void pieces_text(const uint8_t *bytes, size_t m, uint8_t *text, size_t n)
+{
+    for (size_t at = 0; at < n;) {
+        size_t from = below(m), len = 1 + below(m - from);
+        if (len > n - at)
+            len = n - at;
+        memcpy(text + at, bytes + from, len);
+        at += len;
+    }
+}
+
+void repeated_text(const uint8_t *bytes, size_t m, uint8_t *text, size_t n)
+{
+    repeat(bytes, m, text, n);
+}
+
+/* The rest of a text that is being written. */
+struct rest {
+    uint8_t *at, *end;
+};
+
+static void put(struct rest *rest, size_t level)
+{
+    if (rest->at < rest->end)
+        *rest->at++ = (uint8_t)level;
+}
+
+/* Seat after seat: reflections that fall off with some scatter; a flutter of up to about two patterns, in which now and then
+   a reflection is lost; and noise. Losses are rarer for longer patterns, or those would never occur. */
+void record_text(const uint8_t *bytes, size_t m, uint8_t *text, size_t n)
+{
+    (void)bytes;
+    struct rest rest = {text, text + n};
+    while (rest.at < rest.end) {
+        size_t level = 230;
+        for (int i = 0; i < 30; i++) {
+            put(&rest, level + below(19) - 9);
+            level = level * 93 / 100;
+        }
+        for (size_t cycles = below(m / 2 + 12); cycles > 0; cycles--) {
+            size_t lost = below(m) == 0 ? below(4) : 4;
+            for (size_t i = 0; i < 4; i++)
+                put(&rest, i == lost ? 1 : cycle[i]);
+        }
+        for (size_t quiet = 5 + below(21); quiet > 0; quiet--)
+            put(&rest, 1 + below(20));
+    }
+}

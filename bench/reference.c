@@ -1,0 +1,115 @@
+/* One loop for each search, as the rules are written, and nothing more clever: the optimizer is left to do the rest. */
+#define _GNU_SOURCE /* memmem */
+#include "reference.h"
+
+#include <string.h>
+
+static poqewan_report report(uint32_t ending, size_t window, uint64_t count, size_t written)
+{
+    return (poqewan_report){.ending = ending, .window = window, .count = count, .written = written};
+}
+
+poqewan_report reference_colussi(const poqewan_pattern *pattern, const uint8_t *text, size_t n, uint64_t cap,
+                                 uint32_t *positions, size_t room)
+{
+    const size_t m = pattern->len, d = pattern->noholes;
+    size_t b = 0, i = 0, e = 0, written = 0;
+    uint64_t c = 0;
+
+    while (b + m <= n) {
+        size_t rank;
+        if (i == m || b + pattern->order[i] < e) {
+            if (written == room)
+                return report(POQEWAN_FULL, b, c, written);
+            positions[written++] = (uint32_t)b;
+            rank = m;
+        } else {
+            if (c == cap)
+                return report(POQEWAN_SPENT, b, c, written);
+            c++;
+            size_t place = pattern->order[i];
+            if (pattern->bytes[place] == text[b + place]) {
+                i++;
+                continue;
+            }
+            rank = i;
+        }
+        if (rank >= d)
+            e = b + m;
+        b += pattern->shift[rank];
+        i = pattern->next[rank];
+    }
+    return report(POQEWAN_DONE, 0, c, written);
+}
+
+/* The shift at each matched length: kmin at a nohole, which the pattern has by rank; p + 1 at a hole p; rmin(0) at m. */
+static void shifts_by_length(const poqewan_pattern *pattern, uint16_t shifts[257])
+{
+    for (size_t p = 0; p < pattern->len; p++)
+        shifts[p] = (uint16_t)(p + 1);
+    for (size_t i = 0; i < pattern->noholes; i++)
+        shifts[pattern->order[i]] = pattern->shift[i];
+    shifts[pattern->len] = pattern->shift[pattern->len];
+}
+
+poqewan_report reference_kmp(const poqewan_pattern *pattern, const uint8_t *text, size_t n, uint64_t cap,
+                             uint32_t *positions, size_t room)
+{
+    const size_t m = pattern->len;
+    size_t b = 0, i = 0, written = 0;
+    uint64_t c = 0;
+    uint16_t shifts[257];
+    shifts_by_length(pattern, shifts);
+
+    while (b + m <= n) {
+        if (i == m) {
+            if (written == room)
+                return report(POQEWAN_FULL, b, c, written);
+            positions[written++] = (uint32_t)b;
+        } else {
+            if (c == cap)
+                return report(POQEWAN_SPENT, b, c, written);
+            c++;
+            if (pattern->bytes[i] == text[b + i]) {
+                i++;
+                continue;
+            }
+        }
+        size_t s = shifts[i];
+        b += s;
+        i = i > s ? i - s : 0;
+    }
+    return report(POQEWAN_DONE, 0, c, written);
+}
+
+size_t reference_naive(const uint8_t *bytes, size_t m, const uint8_t *text, size_t n, uint32_t *positions)
+{
+    size_t written = 0;
+    for (size_t b = 0; b + m <= n; b++) {
+        size_t i = 0;
+        while (i < m && bytes[i] == text[b + i])
+            i++;
+        if (i == m)
+            positions[written++] = (uint32_t)b;
+    }
+    return written;
+}
+
+size_t reference_memmem(const uint8_t *bytes, size_t m, const uint8_t *text, size_t n, uint32_t *positions)
+{
+    size_t written = 0;
+    const uint8_t *from = text, *end = text + n, *found;
+    while ((found = memmem(from, (size_t)(end - from), bytes, m)) != NULL) {
+        positions[written++] = (uint32_t)(found - text);
+        from = found + 1;
+    }
+    return written;
+}
+
+size_t reference_find(const uint8_t *text, size_t n, uint8_t byte)
+{
+    size_t p = 0;
+    while (p < n && text[p] != byte)
+        p++;
+    return p;
+}

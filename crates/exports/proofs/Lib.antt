@@ -1,0 +1,2 @@
+-- The law behind the functions' proofs.
+pub mod Carrying

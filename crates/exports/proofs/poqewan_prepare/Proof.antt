@@ -1,0 +1,23 @@
+-- `exports::poqewan_prepare` meets its contract: what `pattern::prepare` answers is carried, field by field. Assumes nothing.
+use mathlib.Core.Path.{ap}
+use borrow.Author.Needs.{needs}
+use Rattle.exports.specs.Carried.{carriedPreparation}
+use Rattle.exports.proofs.poqewan_prepare.Statement.{statement}
+use Rattle.exports.proofs.poqewan_prepare.Tie as tie
+
+prepare-requires : tie.Need-prepare-requires
+prepare-requires c κs = search needs
+
+outcome-number-requires : tie.Need-outcome-number-requires
+outcome-number-requires c κs = search needs
+
+same-length : tie.Need-same-length
+same-length c = search needs
+
+returns : tie.Need-returns
+returns c =
+    let P = c .before .before .before .before .prepare .ensures in
+    (rw (c .outcome-number .ensures) (ap carriedPreparation (P .0)), P .1)
+
+pub poqewan-prepare-spec : {M : Type 1} → statement M
+poqewan-prepare-spec = tie.close (tie.spec prepare-requires outcome-number-requires same-length returns)

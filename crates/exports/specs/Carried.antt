@@ -1,0 +1,55 @@
+-- How answers cross to C: refusals and endings by number.
+use Prim.Native.Nat.{ℕ, zero, suc}
+use Rattle.pattern.specs.declared.Outcome.{Outcome}
+use Rattle.pattern.specs.declared.Outcome.the-variants.{Ready, Refused}
+use Rattle.pattern.specs.declared.Prepared.{Prepared}
+use Rattle.refusal.specs.Numbers.{numberOf}
+use Rattle.rules.specs.declared.Ending.{Ending}
+use Rattle.rules.specs.declared.Ending.the-variants.{Done, Spent, Full}
+use Rattle.rules.specs.declared.Report.{Report}
+use Rattle.search.specs.declared.SearchAnswer.{SearchAnswer}
+use Rattle.search.specs.declared.SearchAnswer.the-variants.{Ran}
+use Rattle.search.specs.declared.SearchAnswer.the-variants as answers
+use Rattle.exports.specs.declared.Preparation.{Preparation}
+use Rattle.exports.specs.declared.SearchReport.{SearchReport}
+
+-- 0, or the number of the refusal.
+abbrev pub outcomeNumber : Outcome → ℕ
+outcomeNumber Ready = 0
+outcomeNumber (Refused why) = numberOf why
+
+abbrev pub carriedPreparation : Prepared → Preparation
+carriedPreparation p = record { refusal = outcomeNumber (p .outcome); pattern = p .pattern }
+
+abbrev pub endingNumber : Ending → ℕ
+endingNumber Done = 0
+endingNumber (Spent b) = 1
+endingNumber (Full b) = 2
+
+-- The window at which a search was cut off, or 0.
+abbrev pub endingWindow : Ending → ℕ
+endingWindow Done = 0
+endingWindow (Spent b) = b
+endingWindow (Full b) = b
+
+abbrev pub carriedReport : Report → SearchReport
+carriedReport r = record {
+  refusal = 0;
+  ending = endingNumber (r .ending);
+  window = endingWindow (r .ending);
+  count = r .count;
+  written = r .written;
+}
+
+abbrev pub carried : SearchAnswer → SearchReport
+carried (Ran r) = carriedReport r
+carried (answers.Refused why) = record { refusal = numberOf why; ending = 0; window = 0; count = 0; written = 0 }
+
+-- Read back: the ending that a number and a window stand for, and the report.
+abbrev pub endingOf : ℕ → ℕ → Ending
+endingOf zero b = Done
+endingOf (suc zero) b = Spent b
+endingOf (suc (suc n)) b = Full b
+
+abbrev pub reportIn : SearchReport → Report
+reportIn r = record { ending = endingOf (r .ending) (r .window); count = r .count; written = r .written }

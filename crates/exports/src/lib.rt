@@ -1,0 +1,150 @@
+// What C and Rust may call: the proved functions over numbers, slices and structs of a fixed layout. No function has a precondition, so
+// nothing is asked of a caller but what C asks of pointers.
+use pattern::Outcome;
+use pattern::Pattern;
+use rules::Ending;
+use rules::Report;
+use search::SearchAnswer;
+ghost use mathlib.Core.Path.{_≡_};
+ghost use Prim.Native.Nat.{_+_, _*_, _≤_, _<_};
+ghost use lib.ListN.{length};
+ghost use Rattle.charge.specs.Charged.{charged};
+ghost use Rattle.pattern.specs.Check.{ownBytes};
+ghost use Rattle.pattern.specs.Prepared.{prepared, scratchAfter};
+ghost use Rattle.rules.specs.Colussi.{colussi};
+ghost use Rattle.rules.specs.Kmp.{kmp};
+ghost use Rattle.rules.specs.Promise.{Ceiling, KmpCeiling};
+ghost use Rattle.search.specs.Answer.{answerBy, listBy};
+ghost use Rattle.search.specs.Promise.{Located};
+ghost use Rattle.exports.specs.Carried.{outcomeNumber, carriedPreparation, carriedReport, carried, reportIn};
+
+// The number of a refusal, or 0, and the pattern, which is all zero beside a refusal.
+#[repr(C)]
+pub struct Preparation {
+    pub refusal: u32,
+    pub pattern: Pattern,
+}
+
+// The number of a refusal, and then all else is 0; or 0 and the report of a search. Its ending is 0 for done, 1 for spent and 2 for full,
+// at a window, which is 0 for done.
+#[repr(C)]
+pub struct SearchReport {
+    pub refusal: u32,
+    pub ending: u32,
+    pub window: usize,
+    pub count: u64,
+    pub written: usize,
+}
+
+// The number of a refusal, or 0.
+fn outcome_number(outcome: Outcome) -> u32
+    ensures { λ r. ⌜ r ≡ outcomeNumber outcome ⌝ }
+{
+    match outcome {
+        Outcome::Ready => 0,
+        Outcome::Refused(why) => why.number() as u32,
+    }
+}
+
+fn carry_report(report: Report) -> SearchReport
+    ensures { λ r. ⌜ r ≡ carriedReport report ⌝ }
+{
+    let count = report.count;
+    let written = report.written;
+    let ending = report.ending;
+    match ending {
+        Ending::Done => SearchReport {
+            refusal: 0,
+            ending: 0,
+            window: 0,
+            count,
+            written,
+        },
+        Ending::Spent(window) => SearchReport {
+            refusal: 0,
+            ending: 1,
+            window,
+            count,
+            written,
+        },
+        Ending::Full(window) => SearchReport {
+            refusal: 0,
+            ending: 2,
+            window,
+            count,
+            written,
+        },
+    }
+}
+
+fn carry(answer: SearchAnswer) -> SearchReport
+    ensures { λ r. ⌜ r ≡ carried answer ⌝ }
+{
+    match answer {
+        SearchAnswer::Ran(report) => carry_report(report),
+        SearchAnswer::Refused(why) => SearchReport {
+            refusal: why.number() as u32,
+            ending: 0,
+            window: 0,
+            count: 0,
+            written: 0,
+        },
+    }
+}
+
+// Prepares a pattern for search. Refused, in this order: no byte (1), more than 256 bytes (2), a scratch of fewer than 771 numbers (3). After success
+// the first 771 numbers of the scratch are 0 and the rest unchanged; after a refusal it is unchanged.
+#[no_mangle]
+pub extern "C" fn poqewan_prepare(bytes: &[u8], scratch: &mut [u16]) -> Preparation
+    ensures answer { λ r. ⌜ r ≡ carriedPreparation (prepared (now (bytes .entry)) (length (now (scratch .entry)))) ⌝ }
+    ensures scratched { λ r. ⌜ now (scratch .exit) ≡ scratchAfter (now (bytes .entry)) (now (scratch .entry)) ⌝ }
+{
+    let got = pattern::prepare(bytes, scratch);
+    let pattern = got.pattern;
+    let outcome = got.outcome;
+    let refusal = outcome_number(outcome);
+    Preparation { refusal, pattern }
+}
+
+// Searches a text in Colussi's order, with at most `cap` comparisons, and fills the list from its start with the positions where the pattern
+// occurs, overlaps included. The entries after them are unchanged. Refused, in this order, with the list unchanged: a pattern that is not
+// what preparation gives for its own length and bytes (4), a text of more than 16,777,216 bytes (5).
+#[no_mangle]
+pub extern "C" fn poqewan_colussi(
+    pattern: Pattern,
+    text: &[u8],
+    cap: u64,
+    positions: &mut [u32],
+) -> SearchReport
+    ensures answer { λ r. ⌜ r ≡ carried (answerBy colussi pattern (now (text .entry)) cap (length (now (positions .entry)))) ⌝ }
+    ensures list { λ r. ⌜ now (positions .exit) ≡ listBy colussi pattern (now (text .entry)) cap (now (positions .entry)) ⌝ }
+    ensures accurate { λ r. ⌜ (r .refusal ≡ 0 → Located (ownBytes pattern) (now (text .entry)) cap (now (positions .exit)) (reportIn r)) ⌝ }
+    ensures ceiling { λ r. ⌜ (r .refusal ≡ 0 → Ceiling (length (ownBytes pattern)) (length (now (text .entry))) (reportIn r .ending) (r .count)) ⌝ }
+{
+    carry(search::colussi(pattern, text, cap, positions))
+}
+
+// Searches a text by Knuth, Morris and Pratt, with the same report, endings, refusals and list.
+#[no_mangle]
+pub extern "C" fn poqewan_kmp(
+    pattern: Pattern,
+    text: &[u8],
+    cap: u64,
+    positions: &mut [u32],
+) -> SearchReport
+    ensures answer { λ r. ⌜ r ≡ carried (answerBy kmp pattern (now (text .entry)) cap (length (now (positions .entry)))) ⌝ }
+    ensures list { λ r. ⌜ now (positions .exit) ≡ listBy kmp pattern (now (text .entry)) cap (now (positions .entry)) ⌝ }
+    ensures accurate { λ r. ⌜ (r .refusal ≡ 0 → Located (ownBytes pattern) (now (text .entry)) cap (now (positions .exit)) (reportIn r)) ⌝ }
+    ensures ceiling { λ r. ⌜ (r .refusal ≡ 0 → KmpCeiling (length (ownBytes pattern)) (length (now (text .entry))) (reportIn r .ending) (r .count)) ⌝ }
+{
+    carry(search::kmp(pattern, text, cap, positions))
+}
+
+// The charge of a count of comparisons: its started thousands.
+#[no_mangle]
+pub extern "C" fn poqewan_charge(count: u64) -> u64
+    ensures answer { λ r. ⌜ r ≡ charged count ⌝ }
+    ensures started { λ r. ⌜ (count ≤ 1000 * r) × (1000 * r < count + 1000) ⌝ }
+{
+    charge::charge(count)
+}

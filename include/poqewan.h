@@ -1,0 +1,110 @@
+/*
+ * Exact search for every occurrence of a byte pattern in a text, with the comparisons of a pattern byte with a text byte
+ * counted. Link the archive of the crate `exports`. Example:
+ *
+ *     uint16_t scratch[POQEWAN_SCRATCH];
+ *     uint32_t positions[8192];
+ *     poqewan_preparation p = poqewan_prepare(bytes, m, scratch, POQEWAN_SCRATCH);
+ *     if (p.refusal == 0) {
+ *         poqewan_report r = poqewan_colussi(p.pattern, text, n, UINT64_MAX, positions, 8192);
+ *         if (r.refusal == 0 && r.ending == POQEWAN_DONE)
+ *             printf("%zu occurrences, charge %" PRIu64 "\n", r.written, poqewan_charge(r.count));
+ *     }
+ *
+ * Every function answers whatever it is given: what it answers, and what the lent memory then holds, is fixed by the
+ * arguments alone and proved. A caller owes only what C asks of pointers: each is followed by the number of elements that
+ * it leads to, and memory that a function writes overlaps nothing else that the call is given. With a number of 0 the
+ * pointer is not followed. No function keeps a pointer, allocates, or changes anything but what is said below.
+ */
+#ifndef POQEWAN_H
+#define POQEWAN_H
+
+#include <stddef.h>
+#include <stdint.h>
+
+#ifdef __cplusplus
+extern "C" {
+#endif
+
+/* The longest pattern and the longest text that are accepted, and the least scratch. */
+#define POQEWAN_LONGEST_PATTERN 256
+#define POQEWAN_LONGEST_TEXT 16777216
+#define POQEWAN_SCRATCH 771
+
+/* Refusals, by their numbers. Where more than one applies, the least is given. */
+#define POQEWAN_NO_PATTERN 1
+#define POQEWAN_LONG_PATTERN 2
+#define POQEWAN_SHORT_SCRATCH 3
+#define POQEWAN_FALSE_PATTERN 4
+#define POQEWAN_LONG_TEXT 5
+
+/* How a search ended: run to its end; or cut off at a window, where a comparison was due and the cap was spent, or where the
+   pattern occurred and the list had no free entry. */
+#define POQEWAN_DONE 0
+#define POQEWAN_SPENT 1
+#define POQEWAN_FULL 2
+
+/* A pattern prepared for search: m bytes and their tables. The entries past those defined are 0. A search refuses any value
+   that preparation does not give, so a copy from a file or a wire needs no check of its own. */
+typedef struct poqewan_pattern {
+    size_t len;         /* m, from 1 to 256 */
+    size_t noholes;     /* the number of noholes */
+    uint8_t bytes[256]; /* m bytes */
+    uint8_t order[256]; /* the place that each rank compares: m entries */
+    uint16_t shift[257]; /* how far the window moves, for each rank and for rank m: m + 1 entries */
+    uint16_t next[257];  /* the rank to go on at: m + 1 entries */
+    uint64_t marks[4];  /* the noholes: place p at bit p mod 64 of word p div 64 */
+} poqewan_pattern;
+
+/* The number of a refusal, and then the pattern is all zero; or 0 and the pattern. */
+typedef struct poqewan_preparation {
+    uint32_t refusal;
+    poqewan_pattern pattern;
+} poqewan_preparation;
+
+/* The number of a refusal, and then all else is 0; or 0 and the report of a search. */
+typedef struct poqewan_report {
+    uint32_t refusal;
+    uint32_t ending; /* POQEWAN_DONE, POQEWAN_SPENT or POQEWAN_FULL */
+    size_t window;   /* the window at which the search was cut off, or 0 */
+    uint64_t count;  /* the comparisons of a pattern byte with a text byte */
+    size_t written;  /* the positions written into the list */
+} poqewan_report;
+
+/*
+ * Prepares a pattern for search. Refused, in this order: no byte (1), more than 256 bytes (2), a scratch of fewer than 771
+ * numbers (3). After success the first 771 numbers of the scratch are 0 and the rest unchanged; after a refusal it is
+ * unchanged.
+ */
+poqewan_preparation poqewan_prepare(const uint8_t *bytes, size_t bytes_len, uint16_t *scratch, size_t scratch_len);
+
+/*
+ * Searches a text in Colussi's order, with at most `cap` comparisons, and fills the list from its start with the positions
+ * where the pattern occurs, overlaps included. The entries after them are unchanged. Refused, in this order, with the list
+ * unchanged: a pattern that is not what preparation gives for its own length and bytes (4), a text of more than 16,777,216
+ * bytes (5).
+ *
+ * The positions are exactly the occurrences, ascending, each once; of a search cut off at window b, exactly those below b.
+ * It is spent only with `count` equal to `cap` and a comparison due, and full only with every entry of the list written and
+ * an occurrence at the window. With n text bytes and m pattern bytes, 2 * count <= 3 * n - m at the end if n >= m, and
+ * count = 0 if n < m; cut off at window b, 2 * count <= 3 * b + 2 * m.
+ */
+poqewan_report poqewan_colussi(poqewan_pattern pattern, const uint8_t *text, size_t text_len, uint64_t cap,
+                               uint32_t *positions, size_t positions_len);
+
+/*
+ * Searches a text by Knuth, Morris and Pratt, with the same report, endings, refusals and list. Run to its end it lists the
+ * same positions. Its count is at most 2 * n - m at the end if n >= m, and 0 if n < m; cut off at window b, at most
+ * 2 * b + m.
+ */
+poqewan_report poqewan_kmp(poqewan_pattern pattern, const uint8_t *text, size_t text_len, uint64_t cap,
+                           uint32_t *positions, size_t positions_len);
+
+/* The charge of a count of comparisons: its started thousands. */
+uint64_t poqewan_charge(uint64_t count);
+
+#ifdef __cplusplus
+}
+#endif
+
+#endif

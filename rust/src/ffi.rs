@@ -1,0 +1,83 @@
+//! The C interface, as `include/poqewan.h` declares it.
+
+use crate::Pattern;
+use std::mem::{offset_of, size_of};
+
+/// The number of a refusal, and then the pattern is all zero; or 0 and the pattern.
+#[repr(C)]
+pub struct Preparation {
+    pub refusal: u32,
+    pub pattern: Pattern,
+}
+
+/// The number of a refusal, and then all else is 0; or 0 and the report of a search.
+#[repr(C)]
+pub struct Report {
+    pub refusal: u32,
+    pub ending: u32,
+    pub window: usize,
+    pub count: u64,
+    pub written: usize,
+}
+
+/// The type of both searches.
+pub type Search = unsafe extern "C" fn(
+    pattern: Pattern,
+    text: *const u8,
+    text_len: usize,
+    cap: u64,
+    positions: *mut u32,
+    positions_len: usize,
+) -> Report;
+
+extern "C" {
+    pub fn poqewan_prepare(
+        bytes: *const u8,
+        bytes_len: usize,
+        scratch: *mut u16,
+        scratch_len: usize,
+    ) -> Preparation;
+
+    pub fn poqewan_colussi(
+        pattern: Pattern,
+        text: *const u8,
+        text_len: usize,
+        cap: u64,
+        positions: *mut u32,
+        positions_len: usize,
+    ) -> Report;
+
+    pub fn poqewan_kmp(
+        pattern: Pattern,
+        text: *const u8,
+        text_len: usize,
+        cap: u64,
+        positions: *mut u32,
+        positions_len: usize,
+    ) -> Report;
+
+    pub fn poqewan_charge(count: u64) -> u64;
+}
+
+// The structs travel by value: a field that moved would be read as another.
+const _: () = {
+    assert!(size_of::<Pattern>() == 1592);
+    assert!(offset_of!(Pattern, len) == 0);
+    assert!(offset_of!(Pattern, noholes) == 8);
+    assert!(offset_of!(Pattern, bytes) == 16);
+    assert!(offset_of!(Pattern, order) == 272);
+    assert!(offset_of!(Pattern, shift) == 528);
+    assert!(offset_of!(Pattern, next) == 1042);
+    assert!(offset_of!(Pattern, marks) == 1560);
+
+    assert!(size_of::<Preparation>() == 1600);
+    assert!(offset_of!(Preparation, refusal) == 0);
+    assert!(offset_of!(Preparation, pattern) == 8);
+
+    assert!(size_of::<Report>() == 32);
+    assert!(offset_of!(Report, refusal) == 0);
+    assert!(offset_of!(Report, ending) == 4);
+    assert!(offset_of!(Report, window) == 8);
+    assert!(offset_of!(Report, count) == 16);
+    assert!(offset_of!(Report, written) == 24);
+};

@@ -1,0 +1,277 @@
+//! Exact search for every occurrence of a byte pattern in a text, with the comparisons of a pattern
+//! byte with a text byte counted.
+//!
+//! These are safe wrappers of a proved library. Every function answers whatever it is given: what
+//! it answers, and what the lent memory then holds, is fixed by the arguments alone and proved. No
+//! function allocates or changes anything but what is said below.
+//!
+//! ```
+//! use poqewan::{charge, colussi, prepare, Ending, Refusal, SCRATCH};
+//!
+//! let mut scratch = [0; SCRATCH];
+//! let mut positions = [0; 8];
+//!
+//! let pattern = prepare(b"aba", &mut scratch)?;
+//! let report = colussi(&pattern, b"ababa", u64::MAX, &mut positions)?;
+//!
+//! assert_eq!(report.ending, Ending::Done);
+//! assert_eq!(positions[..report.written], [0, 2]);
+//! assert_eq!(report.count, 5);
+//! assert_eq!(charge(report.count), 1);
+//! # Ok::<(), Refusal>(())
+//! ```
+
+#![deny(unsafe_op_in_unsafe_fn, missing_docs)]
+#![deny(clippy::undocumented_unsafe_blocks)]
+
+mod ffi;
+
+use std::error::Error;
+use std::fmt;
+
+/// The longest pattern that is accepted, in bytes.
+pub const LONGEST_PATTERN: usize = 256;
+
+/// The longest text that is accepted, in bytes.
+pub const LONGEST_TEXT: usize = 16_777_216;
+
+/// The least scratch, in numbers.
+pub const SCRATCH: usize = 771;
+
+/// A pattern prepared for search: m bytes and their tables. The entries past those defined are 0.
+///
+/// A search refuses any value that preparation does not give, so a copy from a file or a wire needs
+/// no check of its own.
+#[repr(C)]
+#[derive(Clone, Copy, Debug, PartialEq, Eq)]
+pub struct Pattern {
+    /// m, from 1 to 256.
+    pub len: usize,
+    /// The number of noholes.
+    pub noholes: usize,
+    /// m bytes.
+    pub bytes: [u8; 256],
+    /// The place that each rank compares: m entries.
+    pub order: [u8; 256],
+    /// How far the window moves, for each rank and for rank m: m + 1 entries.
+    pub shift: [u16; 257],
+    /// The rank to go on at: m + 1 entries.
+    pub next: [u16; 257],
+    /// The noholes: place p at bit p mod 64 of word p div 64.
+    pub marks: [u64; 4],
+}
+
+/// Why a call was refused. Where more than one applies, the one with the least number is given.
+#[derive(Clone, Copy, Debug, PartialEq, Eq, Hash)]
+pub enum Refusal {
+    /// The pattern has no byte.
+    NoPattern = 1,
+    /// The pattern has more than 256 bytes.
+    LongPattern = 2,
+    /// The scratch has fewer than 771 numbers.
+    ShortScratch = 3,
+    /// The pattern is not what preparation gives for its own length and bytes.
+    FalsePattern = 4,
+    /// The text has more than 16,777,216 bytes.
+    LongText = 5,
+}
+
+impl Refusal {
+    /// The refusal's number, from 1 to 5.
+    #[must_use]
+    pub const fn number(self) -> u32 {
+        self as u32
+    }
+}
+
+impl fmt::Display for Refusal {
+    fn fmt(&self, f: &mut fmt::Formatter<'_>) -> fmt::Result {
+        f.write_str(match self {
+            Self::NoPattern => "the pattern has no byte",
+            Self::LongPattern => "the pattern has more than 256 bytes",
+            Self::ShortScratch => "the scratch has fewer than 771 numbers",
+            Self::FalsePattern => {
+                "the pattern is not what preparation gives for its length and bytes"
+            }
+            Self::LongText => "the text has more than 16,777,216 bytes",
+        })
+    }
+}
+
+impl Error for Refusal {}
+
+/// How a search ended.
+#[derive(Clone, Copy, Debug, PartialEq, Eq, Hash)]
+pub enum Ending {
+    /// Run to its end.
+    Done,
+    /// Cut off at this window, where a comparison was due and the cap was spent.
+    Spent(usize),
+    /// Cut off at this window, where the pattern occurred and the list had no free entry.
+    Full(usize),
+}
+
+/// The report of a search.
+#[derive(Clone, Copy, Debug, PartialEq, Eq, Hash)]
+pub struct Report {
+    /// How the search ended.
+    pub ending: Ending,
+    /// The comparisons of a pattern byte with a text byte.
+    pub count: u64,
+    /// The positions written into the list.
+    pub written: usize,
+}
+
+/// Prepares a pattern for search.
+///
+/// After success the first 771 numbers of the scratch are 0 and the rest unchanged; after a refusal
+/// it is unchanged.
+///
+/// # Errors
+///
+/// Refused, in this order: no byte (1), more than 256 bytes (2), a scratch of fewer than 771
+/// numbers (3).
+pub fn prepare(bytes: &[u8], scratch: &mut [u16]) -> Result<Pattern, Refusal> {
+    // SAFETY: each pointer and its number of elements are those of a slice, and what is written is
+    // borrowed mutably, so it overlaps nothing else.
+    let answer = unsafe {
+        ffi::poqewan_prepare(
+            bytes.as_ptr(),
+            bytes.len(),
+            scratch.as_mut_ptr(),
+            scratch.len(),
+        )
+    };
+    accepted(answer.refusal).map(|()| answer.pattern)
+}
+
+/// Searches a text in Colussi's order, with at most `cap` comparisons, and fills the list from its
+/// start with the positions where the pattern occurs, overlaps included. The entries after them are
+/// unchanged.
+///
+/// The positions are exactly the occurrences, ascending, each once; of a search cut off at window
+/// b, exactly those below b. It is spent only with `count` equal to `cap` and a comparison due, and
+/// full only with every entry of the list written and an occurrence at the window. With n text
+/// bytes and m pattern bytes, 2 * count <= 3 * n - m at the end if n >= m, and count = 0 if n < m;
+/// cut off at window b, 2 * count <= 3 * b + 2 * m.
+///
+/// # Errors
+///
+/// Refused, in this order, with the list unchanged: a pattern that is not what preparation gives
+/// for its own length and bytes (4), a text of more than 16,777,216 bytes (5).
+pub fn colussi(
+    pattern: &Pattern,
+    text: &[u8],
+    cap: u64,
+    positions: &mut [u32],
+) -> Result<Report, Refusal> {
+    search(ffi::poqewan_colussi, pattern, text, cap, positions)
+}
+
+/// Searches a text by Knuth, Morris and Pratt, with the same report, endings, refusals and list as
+/// [`colussi`]. Run to its end it lists the same positions.
+///
+/// Its count is at most 2 * n - m at the end if n >= m, and 0 if n < m; cut off at window b, at
+/// most 2 * b + m.
+///
+/// # Errors
+///
+/// Refused as [`colussi`] is.
+pub fn kmp(
+    pattern: &Pattern,
+    text: &[u8],
+    cap: u64,
+    positions: &mut [u32],
+) -> Result<Report, Refusal> {
+    search(ffi::poqewan_kmp, pattern, text, cap, positions)
+}
+
+/// The charge of a count of comparisons: its started thousands.
+#[must_use]
+pub fn charge(count: u64) -> u64 {
+    // SAFETY: a number is taken and a number given.
+    unsafe { ffi::poqewan_charge(count) }
+}
+
+/// Calls one of the library's two searches.
+fn search(
+    by: ffi::Search,
+    pattern: &Pattern,
+    text: &[u8],
+    cap: u64,
+    positions: &mut [u32],
+) -> Result<Report, Refusal> {
+    // SAFETY: each pointer and its number of elements are those of a slice, and what is written is
+    // borrowed mutably, so it overlaps nothing else. Any value of the pattern is answered.
+    let answer = unsafe {
+        by(
+            *pattern,
+            text.as_ptr(),
+            text.len(),
+            cap,
+            positions.as_mut_ptr(),
+            positions.len(),
+        )
+    };
+    searched(&answer)
+}
+
+/// Reads the number of a refusal, or 0.
+fn accepted(number: u32) -> Result<(), Refusal> {
+    match number {
+        0 => Ok(()),
+        1 => Err(Refusal::NoPattern),
+        2 => Err(Refusal::LongPattern),
+        3 => Err(Refusal::ShortScratch),
+        4 => Err(Refusal::FalsePattern),
+        5 => Err(Refusal::LongText),
+        other => unreachable!("the library's contract has no refusal {other}"),
+    }
+}
+
+/// Reads what a search answered.
+fn searched(answer: &ffi::Report) -> Result<Report, Refusal> {
+    accepted(answer.refusal)?;
+    let ending = match answer.ending {
+        0 => Ending::Done,
+        1 => Ending::Spent(answer.window),
+        2 => Ending::Full(answer.window),
+        other => unreachable!("the library's contract has no ending {other}"),
+    };
+    Ok(Report {
+        ending,
+        count: answer.count,
+        written: answer.written,
+    })
+}
+
+#[cfg(test)]
+mod tests {
+    use super::*;
+
+    #[test]
+    fn the_number_of_a_refusal_is_read_back_as_that_refusal() {
+        for number in 1..=5 {
+            assert_eq!(accepted(number).map_err(Refusal::number), Err(number));
+        }
+        assert_eq!(accepted(0), Ok(()));
+    }
+
+    #[test]
+    #[should_panic(expected = "no refusal 9")]
+    fn a_refusal_outside_the_contract_panics() {
+        let _ = accepted(9);
+    }
+
+    #[test]
+    #[should_panic(expected = "no ending 3")]
+    fn an_ending_outside_the_contract_panics() {
+        let _ = searched(&ffi::Report {
+            refusal: 0,
+            ending: 3,
+            window: 0,
+            count: 0,
+            written: 0,
+        });
+    }
+}

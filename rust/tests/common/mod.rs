@@ -1,0 +1,238 @@
+//! What every test of a search checks, and the words that the searches are tried on.
+
+#![allow(dead_code)] // Each test file uses a part of it.
+
+use crate::oracle::{self, Tables};
+use poqewan::{Ending, Pattern, Refusal, Report, SCRATCH};
+
+/// What lists hold before a search. No text is long enough to have such a position.
+pub const UNWRITTEN: u32 = 0xA5A5_A5A5;
+
+/// The two searches.
+#[derive(Clone, Copy, Debug, PartialEq, Eq)]
+pub enum Method {
+    Colussi,
+    Kmp,
+}
+
+impl Method {
+    pub const BOTH: [Self; 2] = [Self::Colussi, Self::Kmp];
+
+    /// Runs the library's search.
+    pub fn run(
+        self,
+        pattern: &Pattern,
+        text: &[u8],
+        cap: u64,
+        list: &mut [u32],
+    ) -> Result<Report, Refusal> {
+        match self {
+            Self::Colussi => poqewan::colussi(pattern, text, cap, list),
+            Self::Kmp => poqewan::kmp(pattern, text, cap, list),
+        }
+    }
+
+    /// Runs the oracle's search.
+    fn by_rules(
+        self,
+        tables: &Tables,
+        text: &[u8],
+        cap: u64,
+        list_len: usize,
+        positions: &mut Vec<u32>,
+    ) -> Report {
+        match self {
+            Self::Colussi => oracle::search_by_rules(tables, text, cap, list_len, positions),
+            Self::Kmp => oracle::kmp_by_rules(tables, text, cap, list_len, positions),
+        }
+    }
+
+    /// Whether a report's count keeps to the ceiling, for m pattern bytes and n text bytes.
+    fn keeps_its_ceiling(self, m: usize, n: usize, report: &Report) -> bool {
+        let [m, n] = [m, n].map(|length| length as u64);
+        let count = report.count;
+        match (self, report.ending) {
+            (_, Ending::Done) if n < m => count == 0,
+            (Self::Colussi, Ending::Done) => 2 * count <= 3 * n - m,
+            (Self::Kmp, Ending::Done) => count <= 2 * n - m,
+            (Self::Colussi, Ending::Spent(b) | Ending::Full(b)) => {
+                2 * count <= 3 * b as u64 + 2 * m
+            }
+            (Self::Kmp, Ending::Spent(b) | Ending::Full(b)) => count <= 2 * b as u64 + m,
+        }
+    }
+}
+
+/// One pattern on trial, with buffers that its searches share.
+pub struct Trial {
+    tables: Tables,
+    pattern: Pattern,
+    list: Vec<u32>,
+    by_rules: Vec<u32>,
+}
+
+impl Trial {
+    /// Prepares a pattern, which must come out as the oracle's.
+    pub fn of(bytes: &[u8]) -> Self {
+        let tables = Tables::of(bytes);
+        let pattern = prepared(bytes);
+        assert!(
+            pattern == tables.pattern(),
+            "tables of \"{}\" differ: {pattern:?}, by definition {:?}",
+            bytes.escape_ascii(),
+            tables.pattern()
+        );
+        Self {
+            tables,
+            pattern,
+            list: Vec::new(),
+            by_rules: Vec::new(),
+        }
+    }
+
+    pub fn pattern(&self) -> &Pattern {
+        &self.pattern
+    }
+
+    /// Runs both searches to the end, with a list that has an entry to spare.
+    pub fn check_to_the_end(&mut self, text: &[u8]) -> [Report; 2] {
+        let reports = self.check(text, u64::MAX, text.len() + 1);
+        assert!(reports.iter().all(|report| report.ending == Ending::Done));
+        reports
+    }
+
+    /// Runs both searches and checks all that is promised of them.
+    pub fn check(&mut self, text: &[u8], cap: u64, list_len: usize) -> [Report; 2] {
+        let occurrences = oracle::occurrences(&self.tables.bytes, text);
+        Method::BOTH.map(|method| self.check_one(method, text, cap, list_len, &occurrences))
+    }
+
+    fn check_one(
+        &mut self,
+        method: Method,
+        text: &[u8],
+        cap: u64,
+        list_len: usize,
+        occurrences: &[u32],
+    ) -> Report {
+        self.list.clear();
+        self.list.resize(list_len, UNWRITTEN);
+        let answer = method.run(&self.pattern, text, cap, &mut self.list);
+        let expected = method.by_rules(&self.tables, text, cap, list_len, &mut self.by_rules);
+
+        let bytes = &self.tables.bytes;
+        let case = || case(method, bytes, text, cap, list_len);
+        assert!(
+            answer == Ok(expected),
+            "{}: {answer:?}, by the rules {expected:?}",
+            case()
+        );
+        let (positions, rest) = self.list.split_at(expected.written);
+        assert!(
+            positions == self.by_rules,
+            "{}: positions are not those by the rules",
+            case()
+        );
+        assert!(
+            rest.iter().all(|&entry| entry == UNWRITTEN),
+            "{}: an entry after the positions was changed",
+            case()
+        );
+        assert!(
+            positions == found(occurrences, expected.ending),
+            "{}: positions are not the occurrences",
+            case()
+        );
+        assert!(
+            method.keeps_its_ceiling(bytes.len(), text.len(), &expected),
+            "{}: count {} is above the ceiling",
+            case(),
+            expected.count
+        );
+        expected
+    }
+}
+
+/// Of all occurrences, those that a search with this ending is to list.
+fn found(occurrences: &[u32], ending: Ending) -> &[u32] {
+    match ending {
+        Ending::Done => occurrences,
+        Ending::Spent(window) | Ending::Full(window) => {
+            &occurrences[..occurrences.partition_point(|&b| (b as usize) < window)]
+        }
+    }
+}
+
+/// Names a case in a message; only the start of a long text is shown.
+fn case(method: Method, bytes: &[u8], text: &[u8], cap: u64, list_len: usize) -> String {
+    format!(
+        "{method:?}, \"{}\" in \"{}\" ({} bytes), cap {cap}, list of {list_len}",
+        bytes.escape_ascii(),
+        text[..text.len().min(100)].escape_ascii(),
+        text.len()
+    )
+}
+
+/// Prepares a pattern that preparation must accept.
+pub fn prepared(bytes: &[u8]) -> Pattern {
+    poqewan::prepare(bytes, &mut [0xFFFF; SCRATCH]).expect("1 to 256 bytes and enough scratch")
+}
+
+/// Both searches must refuse so and leave the list as it is.
+pub fn assert_refused(pattern: &Pattern, text: &[u8], why: Refusal) {
+    for method in Method::BOTH {
+        let mut list = [UNWRITTEN; 8];
+        let answer = method.run(pattern, text, u64::MAX, &mut list);
+        assert_eq!(answer, Err(why), "{method:?} on {pattern:?}");
+        assert_eq!(list, [UNWRITTEN; 8], "{method:?} wrote into the list");
+    }
+}
+
+/// All words of a length.
+pub fn words(letters: &[u8], len: usize) -> Vec<Vec<u8>> {
+    (0..len).fold(vec![Vec::new()], |shorter, _| {
+        shorter
+            .iter()
+            .flat_map(|word| {
+                letters
+                    .iter()
+                    .map(move |&letter| [word, &[letter][..]].concat())
+            })
+            .collect()
+    })
+}
+
+/// A word's first `len` bytes, with the word repeated as far as needed.
+pub fn repeated(word: &[u8], len: usize) -> Vec<u8> {
+    word.iter().copied().cycle().take(len).collect()
+}
+
+/// A generator of fixed sequences (xorshift).
+pub struct Random(u64);
+
+impl Random {
+    /// Starts the sequence of a seed other than 0. The product spreads a small seed over all bits.
+    pub fn new(seed: u64) -> Self {
+        assert_ne!(seed, 0);
+        Self(seed.wrapping_mul(0x9E37_79B9_7F4A_7C15))
+    }
+
+    pub fn number(&mut self) -> u64 {
+        self.0 ^= self.0 << 13;
+        self.0 ^= self.0 >> 7;
+        self.0 ^= self.0 << 17;
+        self.0
+    }
+
+    /// A number below the bound.
+    pub fn below(&mut self, bound: usize) -> usize {
+        (self.number() >> 32) as usize % bound
+    }
+
+    /// A word of random letters.
+    pub fn word(&mut self, letters: &[u8], len: usize) -> Vec<u8> {
+        (0..len)
+            .map(|_| letters[self.below(letters.len())])
+            .collect()
+    }
+}

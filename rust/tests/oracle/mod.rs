@@ -1,0 +1,251 @@
+//! A second implementation, of separate make: the definitions and rules of document 01, written
+//! down as they stand there. Where the document says "the least k that ...", every k is tried in
+//! turn. Only the types are the library's; none of its code is called.
+
+#![allow(dead_code)] // Each test file uses a part of it.
+
+use poqewan::{Ending, Pattern, Report};
+
+/// The positions where the pattern occurs: all its bytes stand at b in the text.
+pub fn occurrences(pattern: &[u8], text: &[u8]) -> Vec<u32> {
+    (0..text.len())
+        .filter(|&b| text[b..].starts_with(pattern))
+        .map(position)
+        .collect()
+}
+
+/// A window as the list holds it.
+fn position(b: usize) -> u32 {
+    u32::try_from(b).expect("no text is that long")
+}
+
+/// k is a period if every two bytes k places apart are equal.
+fn is_period(pattern: &[u8], k: usize) -> bool {
+    (k..pattern.len()).all(|p| pattern[p] == pattern[p - k])
+}
+
+/// hmax(k): the first place p, from k up, where byte p differs from byte p - k; m if there is none.
+fn hmax(pattern: &[u8], k: usize) -> usize {
+    (k..pattern.len())
+        .find(|&p| pattern[p] != pattern[p - k])
+        .unwrap_or(pattern.len())
+}
+
+/// A pattern's tables, each computed once by its definition.
+pub struct Tables {
+    /// The pattern's m bytes.
+    pub bytes: Vec<u8>,
+    /// k and hmax(k), for k from 1 to m.
+    pub hmax: Vec<(usize, usize)>,
+    /// kmin(p), for each place p; none if p is a hole.
+    pub kmin: Vec<Option<usize>>,
+    /// rmin(p), for each place p.
+    pub rmin: Vec<usize>,
+    /// below(p), for p from 0 to m.
+    pub below: Vec<usize>,
+    /// d, the number of noholes.
+    pub noholes: usize,
+    /// The place of each rank.
+    pub order: Vec<usize>,
+    /// shift(i), for i from 0 to m.
+    pub shift: Vec<usize>,
+    /// next(i), for i from 0 to m.
+    pub next: Vec<usize>,
+}
+
+impl Tables {
+    /// The tables of a pattern of at least one byte.
+    pub fn of(bytes: &[u8]) -> Self {
+        let m = bytes.len();
+
+        let hmax: Vec<_> = (1..=m).map(|k| (k, hmax(bytes, k))).collect();
+
+        // Place p is a nohole if some k has hmax(k) = p; kmin(p) is the least such k.
+        let kmin: Vec<_> = (0..m)
+            .map(|p| hmax.iter().find(|&&(_, h)| h == p).map(|&(k, _)| k))
+            .collect();
+        let is_nohole = |&p: &usize| kmin[p].is_some();
+        let is_hole = |&p: &usize| kmin[p].is_none();
+
+        // rmin(p) is the least period of the pattern greater than p. m is always one.
+        let periods: Vec<_> = (1..=m).filter(|&k| is_period(bytes, k)).collect();
+        let rmin: Vec<_> = (0..m)
+            .map(|p| *periods.iter().find(|&&k| k > p).expect("m is a period"))
+            .collect();
+
+        // below(p) is the number of noholes less than p.
+        let below: Vec<_> = (0..=m).map(|p| (0..p).filter(is_nohole).count()).collect();
+        let noholes = (0..m).filter(is_nohole).count();
+
+        // All noholes ascending, then all holes descending.
+        let order: Vec<_> = (0..m)
+            .filter(is_nohole)
+            .chain((0..m).rev().filter(is_hole))
+            .collect();
+
+        // kmin of the rank's place for i less than d, rmin of it for i from d to m - 1, and rmin(0)
+        // for i = m.
+        let shift: Vec<_> = (0..=m)
+            .map(|i| match i {
+                i if i < noholes => kmin[order[i]].expect("a nohole has a kmin"),
+                i if i < m => rmin[order[i]],
+                _ => rmin[0],
+            })
+            .collect();
+
+        // below(p - kmin(p)), p the rank's place, for i less than d; below(m - shift(i)) for i from
+        // d to m.
+        let next: Vec<_> = (0..=m)
+            .map(|i| match i {
+                i if i < noholes => below[order[i] - shift[i]],
+                _ => below[m - shift[i]],
+            })
+            .collect();
+
+        Self {
+            bytes: bytes.to_vec(),
+            hmax,
+            kmin,
+            rmin,
+            below,
+            noholes,
+            order,
+            shift,
+            next,
+        }
+    }
+
+    /// What preparation is to give. All entries past those defined are 0.
+    pub fn pattern(&self) -> Pattern {
+        let mut pattern = ZERO;
+        pattern.len = self.bytes.len();
+        pattern.noholes = self.noholes;
+        pattern.bytes[..self.bytes.len()].copy_from_slice(&self.bytes);
+        fill(&mut pattern.order, &self.order);
+        fill(&mut pattern.shift, &self.shift);
+        fill(&mut pattern.next, &self.next);
+        for p in (0..self.bytes.len()).filter(|&p| self.kmin[p].is_some()) {
+            pattern.marks[p / 64] |= 1 << (p % 64);
+        }
+        pattern
+    }
+}
+
+/// The value with every field 0.
+pub const ZERO: Pattern = Pattern {
+    len: 0,
+    noholes: 0,
+    bytes: [0; 256],
+    order: [0; 256],
+    shift: [0; 257],
+    next: [0; 257],
+    marks: [0; 4],
+};
+
+/// Writes a table from the start of a field.
+fn fill<T: TryFrom<usize>>(field: &mut [T], table: &[usize]) {
+    for (entry, &number) in field.iter_mut().zip(table) {
+        *entry = T::try_from(number).ok().expect("the entry fits its field");
+    }
+}
+
+/// The tables for a value's own length and bytes, if the value is what preparation gives for them.
+pub fn tables_if_true(value: &Pattern) -> Option<Tables> {
+    let own = value.bytes.get(..value.len)?;
+    if own.is_empty() {
+        return None;
+    }
+    let tables = Tables::of(own);
+    (tables.pattern() == *value).then_some(tables)
+}
+
+/// Document 01's search, rule by rule, with a list of `list_len` entries. The positions are given
+/// in `positions`, whatever it held before.
+pub fn search_by_rules(
+    tables: &Tables,
+    text: &[u8],
+    cap: u64,
+    list_len: usize,
+    positions: &mut Vec<u32>,
+) -> Report {
+    positions.clear();
+    let m = tables.bytes.len();
+    // Window b, rank i, known edge e, count c.
+    let (mut b, mut i, mut e, mut c) = (0, 0, 0, 0);
+    while b + m <= text.len() {
+        let rank = if i == m || b + tables.order[i] < e {
+            // Rule 1: the pattern occurs at b, and the window is left with rank m.
+            if positions.len() == list_len {
+                return report(Ending::Full(b), c, positions);
+            }
+            positions.push(position(b));
+            m
+        } else {
+            // Rule 2: a comparison is due. Unequal, the window is left with rank i.
+            if c == cap {
+                return report(Ending::Spent(b), c, positions);
+            }
+            let p = tables.order[i];
+            c += 1;
+            if tables.bytes[p] == text[b + p] {
+                i += 1;
+                continue;
+            }
+            i
+        };
+        // Rule 3: the window moves.
+        if rank >= tables.noholes {
+            e = b + m;
+        }
+        b += tables.shift[rank];
+        i = tables.next[rank];
+    }
+    report(Ending::Done, c, positions)
+}
+
+/// Document 01's search by Knuth, Morris and Pratt, as [`search_by_rules`].
+pub fn kmp_by_rules(
+    tables: &Tables,
+    text: &[u8],
+    cap: u64,
+    list_len: usize,
+    positions: &mut Vec<u32>,
+) -> Report {
+    positions.clear();
+    let m = tables.bytes.len();
+    // Window b, matched length i, count c.
+    let (mut b, mut i, mut c) = (0, 0, 0);
+    while b + m <= text.len() {
+        let shift = if i == m {
+            // The pattern occurs at b.
+            if positions.len() == list_len {
+                return report(Ending::Full(b), c, positions);
+            }
+            positions.push(position(b));
+            tables.rmin[0]
+        } else {
+            // A comparison is due.
+            if c == cap {
+                return report(Ending::Spent(b), c, positions);
+            }
+            c += 1;
+            if tables.bytes[i] == text[b + i] {
+                i += 1;
+                continue;
+            }
+            // kmin(i) if i is a nohole, else i + 1.
+            tables.kmin[i].unwrap_or(i + 1)
+        };
+        b += shift;
+        i = i.saturating_sub(shift);
+    }
+    report(Ending::Done, c, positions)
+}
+
+fn report(ending: Ending, count: u64, positions: &[u32]) -> Report {
+    Report {
+        ending,
+        count,
+        written: positions.len(),
+    }
+}

@@ -1,0 +1,234 @@
+//! Every refusal: preparation at its edges, and values of a pattern that preparation does not give.
+
+mod common;
+mod oracle;
+
+use common::{assert_refused, prepared, repeated, words, Random, Trial};
+use oracle::Tables;
+use poqewan::{Pattern, Refusal, LONGEST_PATTERN, SCRATCH};
+
+/// Preparation's refusal, if any: the first row of document 01's table that applies.
+fn expected_refusal(pattern_len: usize, scratch_len: usize) -> Option<Refusal> {
+    if pattern_len == 0 {
+        Some(Refusal::NoPattern)
+    } else if pattern_len > 256 {
+        Some(Refusal::LongPattern)
+    } else if scratch_len < 771 {
+        Some(Refusal::ShortScratch)
+    } else {
+        None
+    }
+}
+
+/// Prepares a pattern, and checks the answer and the scratch.
+fn check_preparation(bytes: &[u8], scratch_len: usize) {
+    // All numbers differ and none is 0.
+    let lent: Vec<u16> = (1..=scratch_len).map(|i| i as u16).collect();
+    let mut scratch = lent.clone();
+    let answer = poqewan::prepare(bytes, &mut scratch);
+
+    let case = format!("{} bytes, scratch of {scratch_len}", bytes.len());
+    if let Some(why) = expected_refusal(bytes.len(), scratch_len) {
+        assert_eq!(answer, Err(why), "{case}");
+        assert_eq!(scratch, lent, "{case}");
+    } else {
+        assert_eq!(answer, Ok(Tables::of(bytes).pattern()), "{case}");
+        assert_eq!(scratch[..SCRATCH], [0; SCRATCH], "{case}");
+        assert_eq!(scratch[SCRATCH..], lent[SCRATCH..], "{case}");
+    }
+}
+
+#[test]
+fn preparation_refuses_in_order_and_leaves_the_scratch_as_promised() {
+    let mut random = Random::new(31);
+    for pattern_len in [0, 1, 2, 255, 256, 257, 258, 512, 10_000] {
+        for scratch_len in [0, 1, 769, 770, 771, 772, 1_000, 5_000] {
+            check_preparation(&random.word(b"ab", pattern_len), scratch_len);
+            check_preparation(&repeated(b"a", pattern_len), scratch_len);
+        }
+    }
+}
+
+#[test]
+fn the_constants_are_the_edges() {
+    let longest = [b'a'; LONGEST_PATTERN + 1];
+    let mut scratch = [0; SCRATCH];
+    assert!(poqewan::prepare(&longest[1..], &mut scratch).is_ok());
+    assert_eq!(
+        poqewan::prepare(&longest, &mut scratch),
+        Err(Refusal::LongPattern)
+    );
+    assert_eq!(
+        poqewan::prepare(b"a", &mut scratch[1..]),
+        Err(Refusal::ShortScratch)
+    );
+}
+
+/// Both searches must do as the oracle says of this value: refuse it, or search with it.
+fn check_value(value: &Pattern) {
+    match oracle::tables_if_true(value) {
+        None => assert_refused(value, b"abaababaabaab", Refusal::FalsePattern),
+        Some(tables) => {
+            let mut trial = Trial::of(&tables.bytes);
+            assert_eq!(trial.pattern(), value);
+            trial.check_to_the_end(&repeated(&tables.bytes, 2 * value.len + 1));
+        }
+    }
+}
+
+/// Checks a value with each field, each entry of a field and each mark changed in turn. A changed
+/// byte can give another true pattern.
+fn check_each_change(bytes: &[u8]) {
+    let pattern = prepared(bytes);
+    check_value(&pattern);
+
+    let m = bytes.len();
+    for len in [0, 1, m - 1, m + 1, 2 * m, 255, 256, 257, usize::MAX] {
+        check_value(&Pattern { len, ..pattern });
+    }
+    let d = pattern.noholes;
+    for noholes in [0, 1, d.wrapping_sub(1), d + 1, m, 256, 257, usize::MAX] {
+        check_value(&Pattern { noholes, ..pattern });
+    }
+    check_each_entry(&pattern, u8::MAX, |pattern| &mut pattern.bytes);
+    check_each_entry(&pattern, u8::MAX, |pattern| &mut pattern.order);
+    check_each_entry(&pattern, u16::MAX, |pattern| &mut pattern.shift);
+    check_each_entry(&pattern, u16::MAX, |pattern| &mut pattern.next);
+    for place in 0..256 {
+        let mut changed = pattern;
+        changed.marks[place / 64] ^= 1 << (place % 64);
+        check_value(&changed);
+    }
+}
+
+/// Checks a value with each entry of a field changed in turn, to several numbers up to `max`.
+fn check_each_entry<T>(pattern: &Pattern, max: T, field: impl Fn(&mut Pattern) -> &mut [T])
+where
+    T: Copy + Into<u64> + TryFrom<u64>,
+{
+    let mut changed = *pattern;
+    for at in 0..field(&mut changed).len() {
+        let entry = field(&mut changed)[at];
+        for number in other_numbers(entry.into(), max.into()) {
+            let number = T::try_from(number).ok().expect("no number is above max");
+            field(&mut changed)[at] = number;
+            check_value(&changed);
+        }
+        field(&mut changed)[at] = entry;
+    }
+}
+
+/// The neighbours of a number, it with its highest bit changed, and the ends of its range.
+fn other_numbers(number: u64, max: u64) -> impl Iterator<Item = u64> {
+    [
+        number.wrapping_add(1) & max,
+        number.wrapping_sub(1) & max,
+        number ^ (max / 2 + 1),
+        0,
+        max,
+    ]
+    .into_iter()
+    .filter(move |&other| other != number)
+}
+
+#[test]
+fn each_change_of_short_patterns() {
+    for bytes in [
+        &b"a"[..],
+        b"\0",
+        b"aa",
+        b"ab",
+        b"aba",
+        b"ab\0",
+        b"\0\0\0",
+        b"aabaabaa",
+        b"abaababa",
+    ] {
+        check_each_change(bytes);
+    }
+}
+
+#[test]
+fn each_change_of_patterns_of_64_bytes() {
+    check_each_change(&repeated(b"aab", 64));
+    check_each_change(&Random::new(32).word(b"ab", 64));
+}
+
+#[test]
+fn each_change_of_patterns_of_255_bytes() {
+    check_each_change(&repeated(b"a", 255));
+    check_each_change(&Random::new(33).word(b"ab", 255));
+}
+
+#[test]
+fn each_change_of_patterns_of_256_bytes() {
+    check_each_change(&repeated(b"aabaab", 256));
+    check_each_change(&Random::new(34).word(b"ab", 256));
+}
+
+#[test]
+fn the_tables_of_one_pattern_with_the_bytes_of_another() {
+    let patterns: Vec<_> = (1..=5)
+        .flat_map(|len| words(b"ab", len))
+        .map(|bytes| prepared(&bytes))
+        .collect();
+    for one in &patterns {
+        for other in &patterns {
+            check_value(&Pattern {
+                bytes: other.bytes,
+                ..*one
+            });
+            check_value(&Pattern {
+                bytes: other.bytes,
+                len: other.len,
+                ..*one
+            });
+        }
+    }
+}
+
+#[test]
+fn a_value_of_all_zeros() {
+    assert_refused(&oracle::ZERO, b"abc", Refusal::FalsePattern);
+    assert_refused(&oracle::ZERO, b"", Refusal::FalsePattern);
+}
+
+#[test]
+fn values_of_random_junk() {
+    let mut random = Random::new(35);
+    for round in 0..2_000 {
+        let mut junk = Pattern {
+            len: random.number() as usize,
+            noholes: random.number() as usize,
+            bytes: [(); 256].map(|()| random.number() as u8),
+            order: [(); 256].map(|()| random.number() as u8),
+            shift: [(); 257].map(|()| random.number() as u16),
+            next: [(); 257].map(|()| random.number() as u16),
+            marks: [(); 4].map(|()| random.number()),
+        };
+        // Half of the values have a length and a number of noholes that could be.
+        if round % 2 == 0 {
+            junk.len %= 257;
+            junk.noholes %= 256;
+        }
+        check_value(&junk);
+    }
+}
+
+#[test]
+fn true_patterns_with_several_entries_changed() {
+    let mut random = Random::new(36);
+    for _ in 0..2_000 {
+        let len = random.below(40) + 1;
+        let mut changed = prepared(&random.word(b"ab", len));
+        for _ in 0..=random.below(3) {
+            match random.below(4) {
+                0 => changed.bytes[random.below(len)] ^= 3,
+                1 => changed.order.swap(random.below(len), random.below(len)),
+                2 => changed.shift.swap(random.below(len), random.below(len)),
+                _ => changed.next[random.below(len)] ^= 1,
+            }
+        }
+        check_value(&changed);
+    }
+}

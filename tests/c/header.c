@@ -1,0 +1,17 @@
+/* The header alone, as the oldest C and C++ that it serves: it needs nothing included before it, and its use compiles. */
+#include "poqewan.h"
+
+uint64_t charge_of(const uint8_t *bytes, size_t m, const uint8_t *text, size_t n);
+
+uint64_t charge_of(const uint8_t *bytes, size_t m, const uint8_t *text, size_t n)
+{
+    uint16_t scratch[POQEWAN_SCRATCH];
+    uint32_t positions[8192];
+    poqewan_preparation p = poqewan_prepare(bytes, m, scratch, POQEWAN_SCRATCH);
+    if (p.refusal != 0)
+        return 0;
+    poqewan_report r = poqewan_colussi(p.pattern, text, n, UINT64_MAX, positions, 8192);
+    if (r.refusal != 0 || r.ending != POQEWAN_DONE)
+        r = poqewan_kmp(p.pattern, text, n, UINT64_MAX, positions, 0);
+    return poqewan_charge(r.count);
+}

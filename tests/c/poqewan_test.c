@@ -1,0 +1,531 @@
+/*
+ * The C interface as a C program uses it. Every buffer is a heap allocation of exactly the length that is lent, so that a
+ * memory checker sees any step outside.
+ *
+ * With the argument "quick" it does less, for a checker under which it runs slowly. The last line is 'N checks, M failed'.
+ */
+#include "poqewan.h"
+
+#include <stdbool.h>
+#include <stdio.h>
+#include <stdlib.h>
+#include <string.h>
+
+/* The layout that the archive was built with. */
+_Static_assert(sizeof(poqewan_pattern) == 1592, "poqewan_pattern");
+_Static_assert(offsetof(poqewan_pattern, len) == 0, "len");
+_Static_assert(offsetof(poqewan_pattern, noholes) == 8, "noholes");
+_Static_assert(offsetof(poqewan_pattern, bytes) == 16, "bytes");
+_Static_assert(offsetof(poqewan_pattern, order) == 272, "order");
+_Static_assert(offsetof(poqewan_pattern, shift) == 528, "shift");
+_Static_assert(offsetof(poqewan_pattern, next) == 1042, "next");
+_Static_assert(offsetof(poqewan_pattern, marks) == 1560, "marks");
+_Static_assert(sizeof(poqewan_preparation) == 1600, "poqewan_preparation");
+_Static_assert(offsetof(poqewan_preparation, refusal) == 0, "refusal");
+_Static_assert(offsetof(poqewan_preparation, pattern) == 8, "pattern");
+_Static_assert(sizeof(poqewan_report) == 32, "poqewan_report");
+_Static_assert(offsetof(poqewan_report, refusal) == 0, "refusal");
+_Static_assert(offsetof(poqewan_report, ending) == 4, "ending");
+_Static_assert(offsetof(poqewan_report, window) == 8, "window");
+_Static_assert(offsetof(poqewan_report, count) == 16, "count");
+_Static_assert(offsetof(poqewan_report, written) == 24, "written");
+
+/* The bytes of a pattern that belong to no field. */
+#define PADDING_FROM (offsetof(poqewan_pattern, next) + 257 * sizeof(uint16_t))
+#define PADDING_TO offsetof(poqewan_pattern, marks)
+
+/* What lists and scratches hold before a call. */
+#define UNWRITTEN UINT32_C(0xA5A5A5A5)
+#define UNTOUCHED UINT16_C(0xA5A5)
+
+static unsigned long checks, failed;
+
+#define CHECK(condition) check((condition), #condition, __LINE__)
+
+static void check(bool holds, const char *condition, int line)
+{
+    checks++;
+    if (!holds) {
+        failed++;
+        fprintf(stderr, "line %d: not %s\n", line, condition);
+    }
+}
+
+/* Memory of exactly this size. */
+static void *lend(size_t size)
+{
+    void *memory = malloc(size);
+    if (memory == NULL && size > 0) {
+        fputs("out of memory\n", stderr);
+        exit(2);
+    }
+    return memory;
+}
+
+static uint8_t *lend_bytes(const void *bytes, size_t len)
+{
+    uint8_t *copy = lend(len);
+    if (len > 0)
+        memcpy(copy, bytes, len);
+    return copy;
+}
+
+static uint16_t *lend_scratch(size_t len)
+{
+    uint16_t *scratch = lend(len * sizeof *scratch);
+    for (size_t i = 0; i < len; i++)
+        scratch[i] = UNTOUCHED;
+    return scratch;
+}
+
+static uint32_t *lend_list(size_t len)
+{
+    uint32_t *list = lend(len * sizeof *list);
+    for (size_t i = 0; i < len; i++)
+        list[i] = UNWRITTEN;
+    return list;
+}
+
+static bool scratch_is(const uint16_t *scratch, size_t from, size_t to, uint16_t number)
+{
+    for (size_t i = from; i < to; i++)
+        if (scratch[i] != number)
+            return false;
+    return true;
+}
+
+static bool unwritten(const uint32_t *list, size_t from, size_t to)
+{
+    for (size_t i = from; i < to; i++)
+        if (list[i] != UNWRITTEN)
+            return false;
+    return true;
+}
+
+/* A generator of a fixed sequence (xorshift). */
+static uint64_t random_number(void)
+{
+    static uint64_t state = UINT64_C(0x9E3779B97F4A7C15);
+    state ^= state << 13;
+    state ^= state >> 7;
+    state ^= state << 17;
+    return state;
+}
+
+static size_t random_below(size_t bound)
+{
+    return (size_t)(random_number() >> 32) % bound;
+}
+
+static void random_letters(uint8_t *word, size_t len, size_t letters)
+{
+    for (size_t i = 0; i < len; i++)
+        word[i] = (uint8_t)('a' + random_below(letters));
+}
+
+/* Both searches, for what holds of either. */
+typedef poqewan_report search_function(poqewan_pattern, const uint8_t *, size_t, uint64_t, uint32_t *, size_t);
+static search_function *const searches[] = {poqewan_colussi, poqewan_kmp};
+enum { COLUSSI, KMP, SEARCHES };
+
+static bool is_refusal(poqewan_report report, uint32_t number)
+{
+    return report.refusal == number && report.ending == 0 && report.window == 0 && report.count == 0 &&
+           report.written == 0;
+}
+
+static bool is_report(poqewan_report report, uint32_t ending, size_t window, uint64_t count, size_t written)
+{
+    return report.refusal == 0 && report.ending == ending && report.window == window && report.count == count &&
+           report.written == written;
+}
+
+/* Field by field: what the padding holds is nobody's promise. */
+static bool is_zero(const poqewan_pattern *pattern)
+{
+    static const poqewan_pattern zero;
+    return pattern->len == 0 && pattern->noholes == 0 &&
+           memcmp(pattern->bytes, zero.bytes, sizeof zero.bytes) == 0 &&
+           memcmp(pattern->order, zero.order, sizeof zero.order) == 0 &&
+           memcmp(pattern->shift, zero.shift, sizeof zero.shift) == 0 &&
+           memcmp(pattern->next, zero.next, sizeof zero.next) == 0 &&
+           memcmp(pattern->marks, zero.marks, sizeof zero.marks) == 0;
+}
+
+/* Prepares a pattern and checks the refusal, or the scratch that success leaves. */
+static poqewan_pattern prepare(const void *bytes, size_t len, size_t scratch_len, uint32_t refusal)
+{
+    uint8_t *lent = lend_bytes(bytes, len);
+    uint16_t *scratch = lend_scratch(scratch_len);
+    poqewan_preparation p = poqewan_prepare(lent, len, scratch, scratch_len);
+    CHECK(p.refusal == refusal);
+    if (refusal == 0) {
+        CHECK(p.pattern.len == len);
+        CHECK(memcmp(p.pattern.bytes, bytes, len) == 0);
+        CHECK(scratch_is(scratch, 0, POQEWAN_SCRATCH, 0));
+        CHECK(scratch_is(scratch, POQEWAN_SCRATCH, scratch_len, UNTOUCHED));
+    } else {
+        CHECK(is_zero(&p.pattern));
+        CHECK(scratch_is(scratch, 0, scratch_len, UNTOUCHED));
+    }
+    free(scratch);
+    free(lent);
+    return p.pattern;
+}
+
+static poqewan_pattern prepared(const char *letters)
+{
+    return prepare(letters, strlen(letters), POQEWAN_SCRATCH, 0);
+}
+
+/* Both searches must refuse with this number and leave the list as it is. */
+static void check_refused(const poqewan_pattern *pattern, const uint8_t *text, size_t text_len, uint32_t number)
+{
+    uint32_t *list = lend_list(4);
+    for (int s = 0; s < SEARCHES; s++) {
+        CHECK(is_refusal(searches[s](*pattern, text, text_len, UINT64_MAX, list, 4), number));
+        CHECK(unwritten(list, 0, 4));
+    }
+    free(list);
+}
+
+/* The worked records of document 01: Colussi's result, and the count of Knuth, Morris and Pratt where it is given. */
+#define LONG_LIST 16
+#define NOT_GIVEN UINT64_MAX
+
+static const struct record {
+    const char *pattern, *text;
+    uint64_t cap;
+    size_t list_len;
+    uint32_t ending;
+    size_t window;
+    uint64_t count;
+    size_t written;
+    uint32_t positions[3];
+    uint64_t kmp_count;
+} records[] = {
+    {"a", "aab", UINT64_MAX, LONG_LIST, POQEWAN_DONE, 0, 3, 2, {0, 1}, NOT_GIVEN},
+    {"aa", "aaaa", UINT64_MAX, LONG_LIST, POQEWAN_DONE, 0, 4, 3, {0, 1, 2}, NOT_GIVEN},
+    {"ab", "aaaa", UINT64_MAX, LONG_LIST, POQEWAN_DONE, 0, 3, 0, {0}, 6},
+    {"aba", "ababa", UINT64_MAX, LONG_LIST, POQEWAN_DONE, 0, 5, 2, {0, 2}, NOT_GIVEN},
+    {"aba", "ababa", 3, LONG_LIST, POQEWAN_SPENT, 2, 3, 1, {0}, NOT_GIVEN},
+    {"aba", "ababa", 4, LONG_LIST, POQEWAN_SPENT, 2, 4, 1, {0}, NOT_GIVEN},
+    {"aba", "ababa", 5, LONG_LIST, POQEWAN_DONE, 0, 5, 2, {0, 2}, NOT_GIVEN},
+    {"aba", "ababa", UINT64_MAX, 1, POQEWAN_FULL, 2, 5, 1, {0}, NOT_GIVEN},
+    {"aabaa", "aabaaaabaa", UINT64_MAX, LONG_LIST, POQEWAN_DONE, 0, 12, 2, {0, 5}, 12},
+    {"aba", "ab", 0, LONG_LIST, POQEWAN_DONE, 0, 0, 0, {0}, NOT_GIVEN},
+    {"aba", "aba", 0, LONG_LIST, POQEWAN_SPENT, 0, 0, 0, {0}, NOT_GIVEN},
+};
+
+static void test_worked_records(void)
+{
+    for (size_t i = 0; i < sizeof records / sizeof *records; i++) {
+        const struct record *r = &records[i];
+        poqewan_pattern pattern = prepared(r->pattern);
+        size_t n = strlen(r->text);
+        uint8_t *text = lend_bytes(r->text, n);
+        uint32_t *list = lend_list(r->list_len);
+
+        poqewan_report got = poqewan_colussi(pattern, text, n, r->cap, list, r->list_len);
+        CHECK(is_report(got, r->ending, r->window, r->count, r->written));
+        CHECK(memcmp(list, r->positions, r->written * sizeof *list) == 0);
+        CHECK(unwritten(list, r->written, r->list_len));
+        if (r->kmp_count != NOT_GIVEN) {
+            got = poqewan_kmp(pattern, text, n, r->cap, list, r->list_len);
+            CHECK(is_report(got, POQEWAN_DONE, 0, r->kmp_count, r->written));
+        }
+        free(list);
+        free(text);
+    }
+}
+
+static void test_worked_tables(void)
+{
+    static const uint8_t aba_order[] = {1, 2, 0}, aabaa_order[] = {2, 4, 3, 1, 0};
+    static const uint16_t aba_shift[] = {1, 3, 2, 2}, aabaa_shift[] = {1, 5, 4, 3, 3, 3};
+    static const uint16_t all_zero[257];
+
+    poqewan_pattern pattern = prepared("aba");
+    CHECK(memcmp(pattern.order, aba_order, sizeof aba_order) == 0);
+    CHECK(memcmp(pattern.shift, aba_shift, sizeof aba_shift) == 0);
+    CHECK(memcmp(pattern.next, all_zero, sizeof all_zero) == 0);
+
+    pattern = prepared("aabaa");
+    CHECK(memcmp(pattern.order, aabaa_order, sizeof aabaa_order) == 0);
+    CHECK(memcmp(pattern.shift, aabaa_shift, sizeof aabaa_shift) == 0);
+    CHECK(memcmp(pattern.next, all_zero, sizeof all_zero) == 0);
+}
+
+static void test_charge(void)
+{
+    CHECK(poqewan_charge(0) == 0);
+    CHECK(poqewan_charge(1) == 1);
+    CHECK(poqewan_charge(1000) == 1);
+    CHECK(poqewan_charge(1001) == 2);
+    CHECK(poqewan_charge(UINT64_MAX) == UINT64_C(18446744073709552));
+}
+
+/* Refusals 1 to 3, each at its edges, in their order. */
+static void test_preparation(void)
+{
+    static const size_t lengths[] = {0, 1, 2, 255, 256, 257, 1000};
+    static const size_t scratches[] = {0, 1, 770, 771, 772, 1000};
+    uint8_t bytes[1000];
+    random_letters(bytes, sizeof bytes, 2);
+    for (size_t i = 0; i < sizeof lengths / sizeof *lengths; i++)
+        for (size_t j = 0; j < sizeof scratches / sizeof *scratches; j++) {
+            size_t m = lengths[i], scratch_len = scratches[j];
+            uint32_t refusal = m == 0                          ? POQEWAN_NO_PATTERN
+                               : m > POQEWAN_LONGEST_PATTERN   ? POQEWAN_LONG_PATTERN
+                               : scratch_len < POQEWAN_SCRATCH ? POQEWAN_SHORT_SCRATCH
+                                                               : 0;
+            prepare(bytes, m, scratch_len, refusal);
+        }
+}
+
+/* With a number of 0 the pointer is not followed. */
+static void test_null(void)
+{
+    uint8_t *a = lend_bytes("a", 1);
+    uint32_t *list = lend_list(1);
+    poqewan_pattern pattern = prepared("a");
+
+    CHECK(poqewan_prepare(NULL, 0, NULL, 0).refusal == POQEWAN_NO_PATTERN);
+    CHECK(poqewan_prepare(a, 1, NULL, 0).refusal == POQEWAN_SHORT_SCRATCH);
+    for (int s = 0; s < SEARCHES; s++) {
+        CHECK(is_report(searches[s](pattern, NULL, 0, 0, NULL, 0), POQEWAN_DONE, 0, 0, 0));
+        CHECK(is_report(searches[s](pattern, NULL, 0, 0, list, 1), POQEWAN_DONE, 0, 0, 0));
+        CHECK(is_report(searches[s](pattern, a, 1, 0, NULL, 0), POQEWAN_SPENT, 0, 0, 0));
+        CHECK(is_report(searches[s](pattern, a, 1, 1, NULL, 0), POQEWAN_FULL, 0, 1, 0));
+    }
+    CHECK(unwritten(list, 0, 1));
+    free(list);
+    free(a);
+}
+
+/* A bit changed in any byte of a pattern but its own m bytes makes it false; in the padding it changes nothing. */
+static void test_changed_patterns(void)
+{
+    static const char *const patterns[] = {"a", "aba", "aabaabaab"};
+    uint8_t *text = lend_bytes("aabaabaabaab", 12);
+    for (size_t i = 0; i < sizeof patterns / sizeof *patterns; i++) {
+        poqewan_pattern pattern = prepared(patterns[i]), changed;
+        for (size_t at = 0; at < sizeof pattern; at++) {
+            if (offsetof(poqewan_pattern, bytes) <= at && at < offsetof(poqewan_pattern, bytes) + pattern.len)
+                continue;
+            memcpy(&changed, &pattern, sizeof pattern);
+            ((uint8_t *)&changed)[at] ^= (uint8_t)(1u << at % 8);
+            if (PADDING_FROM <= at && at < PADDING_TO)
+                CHECK(poqewan_colussi(changed, text, 12, 0, NULL, 0).refusal == 0);
+            else
+                check_refused(&changed, text, 12, POQEWAN_FALSE_PATTERN);
+        }
+    }
+    free(text);
+}
+
+static void test_false_lengths(void)
+{
+    static const size_t lengths[] = {0, 2, 4, 255, 256, 257, 258, SIZE_MAX};
+    uint8_t *text = lend_bytes("ababa", 5);
+    for (size_t i = 0; i < sizeof lengths / sizeof *lengths; i++) {
+        poqewan_pattern pattern = prepared("aba");
+        pattern.len = lengths[i];
+        check_refused(&pattern, text, 5, POQEWAN_FALSE_PATTERN);
+    }
+    free(text);
+}
+
+/* All zero, and random junk; half of it with numbers that could be lengths. */
+static void test_junk(size_t rounds)
+{
+    uint8_t *text = lend_bytes("abaababaab", 10);
+    poqewan_pattern junk;
+    memset(&junk, 0, sizeof junk);
+    check_refused(&junk, text, 10, POQEWAN_FALSE_PATTERN);
+    for (size_t round = 0; round < rounds; round++) {
+        for (size_t at = 0; at < sizeof junk; at++)
+            ((uint8_t *)&junk)[at] = (uint8_t)random_number();
+        if (round % 2 == 0) {
+            junk.len %= 257;
+            junk.noholes %= 256;
+        }
+        check_refused(&junk, text, 10, POQEWAN_FALSE_PATTERN);
+    }
+    free(text);
+}
+
+/* The naive search. */
+static bool occurs(const uint8_t *pattern, size_t m, const uint8_t *text, size_t n, size_t b)
+{
+    return b + m <= n && memcmp(pattern, text + b, m) == 0;
+}
+
+/* Whether the list holds exactly the occurrences below a window. */
+static bool lists_occurrences(const uint32_t *list, size_t written, const uint8_t *pattern, size_t m,
+                              const uint8_t *text, size_t n, size_t window)
+{
+    size_t found = 0;
+    for (size_t b = 0; b < window; b++)
+        if (occurs(pattern, m, text, n, b)) {
+            if (found == written || list[found] != b)
+                return false;
+            found++;
+        }
+    return found == written;
+}
+
+/* 2 * count <= 3 * n - m and count <= 2 * n - m at the end; 3 * b + 2 * m and 2 * b + m where cut off at window b. */
+static bool under_ceiling(int search, poqewan_report report, size_t m, size_t n)
+{
+    if (report.ending == POQEWAN_DONE && n < m)
+        return report.count == 0;
+    if (report.ending == POQEWAN_DONE)
+        return search == COLUSSI ? 2 * report.count <= 3 * n - m : report.count <= 2 * n - m;
+    return search == COLUSSI ? 2 * report.count <= 3 * report.window + 2 * m : report.count <= 2 * report.window + m;
+}
+
+/* Runs one search and checks what is promised of any report. Gives the report. */
+static poqewan_report check_search(int search, const poqewan_pattern *pattern, const uint8_t *text, size_t n,
+                                   uint64_t cap, size_t list_len)
+{
+    const uint8_t *bytes = pattern->bytes;
+    size_t m = pattern->len;
+    uint32_t *list = lend_list(list_len);
+    poqewan_report r = searches[search](*pattern, text, n, cap, list, list_len);
+
+    CHECK(r.refusal == 0);
+    CHECK(r.ending == POQEWAN_DONE || r.ending == POQEWAN_SPENT || r.ending == POQEWAN_FULL);
+    CHECK(r.written <= list_len && unwritten(list, r.written, list_len));
+    CHECK(lists_occurrences(list, r.written, bytes, m, text, n, r.ending == POQEWAN_DONE ? n : r.window));
+    CHECK(r.count <= cap);
+    CHECK(under_ceiling(search, r, m, n));
+    if (r.ending == POQEWAN_DONE)
+        CHECK(r.window == 0);
+    if (r.ending == POQEWAN_SPENT)
+        CHECK(r.count == cap && r.window + m <= n);
+    if (r.ending == POQEWAN_FULL)
+        CHECK(r.written == list_len && occurs(bytes, m, text, n, r.window));
+    free(list);
+    return r;
+}
+
+/* With what the whole search spends and fills it is done; with less it is cut off. */
+static void check_limits(int search, const poqewan_pattern *pattern, const uint8_t *text, size_t n)
+{
+    poqewan_report whole = check_search(search, pattern, text, n, UINT64_MAX, n + 1);
+    CHECK(whole.ending == POQEWAN_DONE);
+    for (uint64_t cap = 0; cap <= whole.count + 1; cap++) {
+        poqewan_report r = check_search(search, pattern, text, n, cap, whole.written);
+        CHECK(r.ending == (cap < whole.count ? POQEWAN_SPENT : POQEWAN_DONE));
+    }
+    /* A cap that is 0 in its lower half. */
+    CHECK(check_search(search, pattern, text, n, UINT64_C(1) << 32, whole.written).ending == POQEWAN_DONE);
+    for (size_t list_len = 0; list_len <= whole.written + 1; list_len++) {
+        poqewan_report r = check_search(search, pattern, text, n, UINT64_MAX, list_len);
+        CHECK(r.ending == (list_len < whole.written ? POQEWAN_FULL : POQEWAN_DONE));
+    }
+}
+
+static void test_limits(void)
+{
+    static const char *const pairs[][2] = {
+        {"a", ""}, {"a", "a"}, {"ab", "a"}, {"aba", "aba"}, {"aba", "abab"}, {"aa", "aaaaaa"}, {"aabaa", "aabaaaabaabaa"},
+    };
+    for (size_t i = 0; i < sizeof pairs / sizeof *pairs; i++)
+        for (int s = 0; s < SEARCHES; s++) {
+            poqewan_pattern pattern = prepared(pairs[i][0]);
+            size_t n = strlen(pairs[i][1]);
+            uint8_t *text = lend_bytes(pairs[i][1], n);
+            check_limits(s, &pattern, text, n);
+            free(text);
+        }
+}
+
+/* Small searches with limits drawn by lot; now and then the longest pattern. */
+static void test_random_searches(size_t rounds)
+{
+    uint8_t bytes[POQEWAN_LONGEST_PATTERN];
+    for (size_t round = 0; round < rounds; round++) {
+        size_t letters = 1 + random_below(3);
+        size_t m = round % 50 == 0 ? POQEWAN_LONGEST_PATTERN : 1 + random_below(6);
+        random_letters(bytes, m, letters);
+        poqewan_pattern pattern = prepare(bytes, m, POQEWAN_SCRATCH, 0);
+
+        size_t n = random_below(m + 60);
+        uint8_t *text = lend(n);
+        random_letters(text, n, letters);
+        for (int s = 0; s < SEARCHES; s++) {
+            poqewan_report whole = check_search(s, &pattern, text, n, UINT64_MAX, n + 1);
+            CHECK(whole.ending == POQEWAN_DONE);
+            check_search(s, &pattern, text, n, random_below(whole.count + 2), random_below(whole.written + 2));
+        }
+        free(text);
+    }
+}
+
+/* In a text of the greatest length, an occurrence in the last window is found. */
+static void test_longest_text(void)
+{
+    const size_t n = POQEWAN_LONGEST_TEXT;
+    poqewan_pattern pattern = prepared("ab");
+    uint8_t *text = lend(n);
+    memset(text, 'a', n);
+    text[n - 1] = 'b';
+    for (int s = 0; s < SEARCHES; s++) {
+        uint32_t *list = lend_list(1);
+        poqewan_report r = searches[s](pattern, text, n, UINT64_MAX, list, 1);
+        CHECK(r.refusal == 0 && r.ending == POQEWAN_DONE && r.written == 1 && list[0] == n - 2);
+        CHECK(under_ceiling(s, r, 2, n));
+        free(list);
+    }
+    free(text);
+}
+
+/* A list with an entry for each window of the longest text. Each text byte is compared once. */
+static void test_longest_list(void)
+{
+    const size_t n = POQEWAN_LONGEST_TEXT;
+    poqewan_pattern pattern = prepared("aa");
+    uint8_t *text = lend(n);
+    memset(text, 'a', n);
+    for (int s = 0; s < SEARCHES; s++) {
+        poqewan_report r = check_search(s, &pattern, text, n, UINT64_MAX, n - 1);
+        CHECK(is_report(r, POQEWAN_DONE, 0, n, n - 1));
+    }
+    free(text);
+}
+
+/* One byte more is refused, after a false pattern is. */
+static void test_long_text(void)
+{
+    const size_t n = POQEWAN_LONGEST_TEXT + 1;
+    poqewan_pattern pattern = prepared("aba");
+    uint8_t *text = lend(n);
+    memset(text, 'a', n);
+    check_refused(&pattern, text, n, POQEWAN_LONG_TEXT);
+    pattern.noholes++;
+    check_refused(&pattern, text, n, POQEWAN_FALSE_PATTERN);
+    free(text);
+}
+
+int main(int argc, char **argv)
+{
+    bool quick = argc > 1 && strcmp(argv[1], "quick") == 0;
+    test_worked_records();
+    test_worked_tables();
+    test_charge();
+    test_preparation();
+    test_null();
+    test_changed_patterns();
+    test_false_lengths();
+    test_junk(quick ? 100 : 1000);
+    test_limits();
+    test_random_searches(quick ? 200 : 2000);
+    test_longest_text();
+    if (!quick)
+        test_longest_list();
+    test_long_text();
+    printf("%lu checks, %lu failed\n", checks, failed);
+    return failed == 0 ? EXIT_SUCCESS : EXIT_FAILURE;
+}
