@@ -1,5 +1,5 @@
--- A report that crosses to C is read back as it was, so what is promised of an answer holds of what C receives.
-use Prim.Native.Nat.{ℕ, zero, suc}
+-- A report that crosses to C is read back as it was, so what is promised of an answer holds of what C receives. Assumes nothing.
+use Prim.Native.Nat.{ℕ}
 use mathlib.Core.Path.{_≡_, refl}
 use mathlib.Core.List.{List}
 use native.Mathlib.Omega.{arith}

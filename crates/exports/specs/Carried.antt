@@ -18,6 +18,7 @@ abbrev pub outcomeNumber : Outcome → ℕ
 outcomeNumber Ready = 0
 outcomeNumber (Refused why) = numberOf why
 
+-- The answer of preparation.
 abbrev pub carriedPreparation : Prepared → Preparation
 carriedPreparation p = record { refusal = outcomeNumber (p .outcome); pattern = p .pattern }
 
@@ -32,6 +33,7 @@ endingWindow Done = 0
 endingWindow (Spent b) = b
 endingWindow (Full b) = b
 
+-- A report, beside refusal 0.
 abbrev pub carriedReport : Report → SearchReport
 carriedReport r = record {
   refusal = 0;
@@ -41,6 +43,7 @@ carriedReport r = record {
   written = r .written;
 }
 
+-- An answer: beside a refusal all else is 0.
 abbrev pub carried : SearchAnswer → SearchReport
 carried (Ran r) = carriedReport r
 carried (answers.Refused why) = record { refusal = numberOf why; ending = 0; window = 0; count = 0; written = 0 }

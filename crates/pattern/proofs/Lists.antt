@@ -1,12 +1,12 @@
--- Lists that are filled from the front, a store a turn; a list by its entries; and what stands at an index. Assumes nothing.
+-- Lists that are filled, from the front or in any order; a list by its entries; and what stands at an index. Assumes nothing.
 use Prim.Native.Nat.{ℕ, zero, suc, _+_, _-_, _≤_, _<_}
 use mathlib.Core.Path.{_≡_, refl, sym, ap, _∙_}
 use mathlib.Core.Logic.{⊎-elim}
 use mathlib.Core.List.{List, [], _∷_, _++_, append-assoc}
 use native.Mathlib.Omega.{arith}
 use native.Mathlib.Numerals.{add-one}
-use lib.ListN.{length, getD, take, set, replicate, length-append, length-replicate, List·getD-append}
-use lib.Seq.{set-append-seam, take-suc, take-length, getD-append-seam}
+use lib.ListN.{length, getD, take, set, replicate, length-append, length-replicate, getD-replicate, List·getD-append}
+use lib.Seq.{set-append-seam, take-suc, take-length, getD-append-seam, getD-append-add, ext-getD}
 use Rattle.words.proofs.Cases.{less-or}
 use Rattle.pattern.specs.Lists.{tabulate, padded}
 
@@ -71,3 +71,21 @@ tabulate-at (suc n) f i l = ⊎-elim
 
 pub padded-tabulate-at : (k n : ℕ) (f : ℕ → ℕ) (i : ℕ) → i < n → getD (padded k (tabulate n f)) i 0 ≡ f i
 padded-tabulate-at k n f i l = padded-at k (tabulate n f) i (omega (arith, length-tabulate n f)) ∙ tabulate-at n f i l
+
+-- ---- Filled in any order
+
+-- Zeros follow the list.
+padded-past : (n : ℕ) (l : List ℕ) (i : ℕ) → length l ≤ i → i < n → getD (padded n l) i 0 ≡ 0
+unfolding padded
+padded-past n l i past h =
+    let e : length l + (i - length l) ≡ i = omega arith in
+    rw e at (getD-append-add l (replicate (n - length l) 0) (i - length l) 0) ∙ getD-replicate (n - length l) (i - length l) 0 0 (omega arith)
+
+-- k entries, f at those below n and 0 at the others: that is the table of f's first n values.
+pub padded-by-entries : (k n : ℕ) (f : ℕ → ℕ) (l : List ℕ) → n ≤ k → length l ≡ k
+    → ((i : ℕ) → i < n → getD l i 0 ≡ f i) → ((i : ℕ) → n ≤ i → i < k → getD l i 0 ≡ 0) → l ≡ padded k (tabulate n f)
+padded-by-entries k n f l h size front past =
+    ext-getD 0 l (padded k (tabulate n f)) (size ∙ sym (length-padded k (tabulate n f) (omega (arith, length-tabulate n f)))) (λ i b. ⊎-elim
+    (λ (a : i < n). front i a ∙ sym (padded-tabulate-at k n f i a))
+    (λ (a : n ≤ i). past i a (omega arith) ∙ sym (padded-past k (tabulate n f) i (omega (arith, length-tabulate n f)) (omega arith)))
+    (less-or i n))

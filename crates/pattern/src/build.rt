@@ -1,11 +1,11 @@
 // The whole pattern: the tables are filled in the scratch, and the fields read off them.
 use super::Pattern;
 use super::counts::fill_below;
+use super::entries::wide;
 use super::hmax::fill_hmax;
 use super::kmin::fill_kmin;
 use super::marks::mark_words;
-use super::ranks::rank_holes;
-use super::ranks::rank_noholes;
+use super::ranks::rank_places;
 ghost use mathlib.Core.Path.{_≡_};
 ghost use Prim.Native.Nat.{_≤_};
 ghost use lib.ListN.{length};
@@ -34,8 +34,8 @@ pub fn read_off(bytes: &[u8], scratch: &[u16]) -> Pattern
     let mut order = [0u8; 256];
     let mut shift = [0u16; 257];
     let mut next = [0u16; 257];
-    let noholes = rank_noholes(bytes, scratch, &mut order, &mut shift, &mut next);
-    rank_holes(bytes, scratch, &mut order, &mut shift, &mut next, noholes);
+    rank_places(bytes, scratch, &mut order, &mut shift, &mut next);
+    let noholes = wide(scratch[514 + bytes.len()]);
     let marks = mark_words(bytes, scratch);
     let whole = copied(bytes);
     Pattern {

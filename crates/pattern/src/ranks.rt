@@ -1,42 +1,12 @@
 // The tables by rank: order, shift and next.
 use super::entries::wide;
 ghost use mathlib.Core.Path.{_≡_};
+ghost use mathlib.Core.Bool.{cond};
 ghost use Prim.Native.Nat.{_-_, _<_};
 ghost use lib.ListN.{length};
-ghost use Rattle.words.specs.Tables.{noholes, rmin};
+ghost use Rattle.words.specs.Tables.{rmin};
 ghost use Rattle.pattern.specs.Internal.Scratch.{Sizes, Tables};
 ghost use Rattle.pattern.specs.Internal.Ranked.{Ranked, RankedAll};
-
-// The ranks of the noholes, upwards; answers how many there are.
-pub fn rank_noholes(
-    bytes: &[u8],
-    scratch: &[u16],
-    order: &mut [u8; 256],
-    shift: &mut [u16; 257],
-    next: &mut [u16; 257],
-) -> usize
-    requires { ⌜ Sizes (now bytes) (now scratch) ⌝ }
-    requires { ⌜ Tables (now bytes) (now scratch) ⌝ }
-    requires { ⌜ Ranked (now bytes) (now order) (now shift) (now next) 0 ⌝ }
-    ensures { λ r. ⌜ r ≡ noholes (now (bytes .entry)) ⌝ }
-    ensures { λ r. ⌜ Ranked (now (bytes .entry)) (now (order .exit)) (now (shift .exit)) (now (next .exit)) r ⌝ }
-{
-    let m = bytes.len();
-    let mut i: usize = 0;
-    let mut at: usize = 0;
-    while at < m {
-        let p = at;
-        let k = wide(scratch[257 + p]);
-        at += 1;
-        if k <= m {
-            order[i] = p as u8;
-            shift[i] = k as u16;
-            next[i] = scratch[514 + (p - k)];
-            i += 1;
-        }
-    }
-    i
-}
 
 // rmin(p - 1) from rmin(p): it is p where p is a period. At place 0 it stays.
 pub fn period_from(bytes: &[u8], scratch: &[u16], p: usize, above: usize) -> usize
@@ -54,23 +24,27 @@ pub fn period_from(bytes: &[u8], scratch: &[u16], p: usize, above: usize) -> usi
     above
 }
 
-// The ranks of the holes, downwards, and the rank m.
-pub fn rank_holes(
+// One of two numbers by a test that cannot be foretold: a select, where a branch would be guessed wrong.
+fn choose(test: bool, yes: usize, no: usize) -> usize
+    ensures { λ r. ⌜ r ≡ cond test yes no ⌝ }
+{
+    if test { yes } else { no }
+}
+
+// The ranks of all places, downwards, and the rank m.
+pub fn rank_places(
     bytes: &[u8],
     scratch: &[u16],
     order: &mut [u8; 256],
     shift: &mut [u16; 257],
     next: &mut [u16; 257],
-    noholes: usize,
 )
     requires { ⌜ Sizes (now bytes) (now scratch) ⌝ }
     requires { ⌜ Tables (now bytes) (now scratch) ⌝ }
-    requires { ⌜ noholes ≡ Rattle.words.specs.Tables.noholes (now bytes) ⌝ }
-    requires { ⌜ Ranked (now bytes) (now order) (now shift) (now next) noholes ⌝ }
+    requires { ⌜ Ranked (now bytes) (now order) (now shift) (now next) (length (now bytes)) ⌝ }
     ensures { λ r. ⌜ RankedAll (now (bytes .entry)) (now (order .exit)) (now (shift .exit)) (now (next .exit)) ⌝ }
 {
     let m = bytes.len();
-    let mut i = noholes;
     let mut left = m;
     let mut above = m;
     while 0 < left {
@@ -79,12 +53,14 @@ pub fn rank_holes(
         above = period_from(bytes, scratch, p, r);
         left = p;
         let k = wide(scratch[257 + p]);
-        if m < k {
-            order[i] = p as u8;
-            shift[i] = r as u16;
-            next[i] = scratch[514 + (m - r)];
-            i += 1;
-        }
+        let below = wide(scratch[514 + p]);
+        let nohole = k <= m;
+        let i = choose(nohole, below, m - 1 - p + below);
+        let s = choose(nohole, k, r);
+        let from = choose(nohole, p, m);
+        order[i] = p as u8;
+        shift[i] = s as u16;
+        next[i] = scratch[514 + (from - s)];
     }
     shift[m] = above as u16;
     next[m] = scratch[514 + (m - above)];

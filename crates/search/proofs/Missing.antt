@@ -47,10 +47,14 @@ module _ (text : List ℕ) (x o last cap b c room p k : ℕ) (miss : getD text (
     capped = omega (arith, S .upto);
   }
 
--- The turns that are left to a scan, in each window to come one for each rank, do not grow from rank 0 of a window to a later one.
-pub no-more : (m n b i b' i' : ℕ) → i ≡ 0 → b ≤ b' → (suc n - b') * suc m + (m - i') ≤ (suc n - b) * suc m + (m - i)
-no-more m n b i b' i' first l =
-    let d : suc n - b' ≤ suc n - b = omega arith in
+-- The turns left to a scan at rank i of window b: in each window to come one for each rank, and in this one for those not yet passed.
+abbrev pub turns-left : ℕ → List ℕ → ℕ → ℕ → ℕ
+turns-left m text b i = (suc (length text) - b) * suc m + (m - i)
+
+-- They do not grow from rank 0 of a window to a later one.
+pub no-more : (m : ℕ) (text : List ℕ) (b i b' i' : ℕ) → i ≡ 0 → b ≤ b' → turns-left m text b' i' ≤ turns-left m text b i
+no-more m text b i b' i' first l =
+    let d : suc (length text) - b' ≤ suc (length text) - b = omega arith in
     omega (arith, mul-le-mul-right (suc m) d)
 
 -- ---- In the terms of the rules

@@ -1,8 +1,7 @@
 -- `search::left_to_right::scan` meets its contract. The loop's invariant, `Follows`: the search ends from the loop's state as it does from its
--- start. The measure: in each window to come a turn for each matched length, and in this one for those that are left. Assumes nothing.
-use Prim.Native.Nat.{ℕ, suc, _≤_, _<_, _-_, _+_, _*_}
+-- start. The measure: the turns that are left. Assumes nothing.
+use Prim.Native.Nat.{_≤_, _<_, _-_, _+_}
 use mathlib.Core.Path.{_≡_, refl}
-use mathlib.Core.List.{List}
 use native.Mathlib.Omega.{arith}
 use lib.ListN.{length, take}
 use lib.Seq.{length-take-le}
@@ -13,7 +12,7 @@ use Rattle.words.proofs.Cases.{both-true}
 use Rattle.rules.specs.Kmp.{kmp-plan}
 use Rattle.rules.proofs.Rules.{fewer}
 use Rattle.rules.proofs.Following.{Follows, follows-start}
-use Rattle.search.proofs.Missing.{no-more}
+use Rattle.search.proofs.Missing.{turns-left, no-more}
 use Rattle.search.proofs.KmpScanning.{shift-on, scan-done, scan-ahead, scan-spent, scan-matched, scan-missed, scan-full, scan-listed}
 use Rattle.search.proofs.left_to_right.scan.Statement.{statement}
 use Rattle.search.proofs.left_to_right.scan.Tie as tie
@@ -21,9 +20,6 @@ use Rattle.search.proofs.left_to_right.scan.Tie as tie
 abbrev Inv-loop : tie.InvT-loop
 Inv-loop bytes m text cap positions₀ shifts last b₀ i₀ c₀ k₀ positions b i c k =
     Follows (kmp-plan (take m bytes)) (take m bytes) text cap positions₀ positions b i 0 c k
-
-abbrev turns-left : ℕ → List ℕ → ℕ → ℕ → ℕ
-turns-left m text b i = (suc (length text) - b) * suc m + (m - i)
 
 abbrev μ-loop : tie.MeasureT-loop
 μ-loop bytes m text cap positions₀ shifts last b₀ i₀ c₀ k₀ positions b i c k = turns-left m text b i
@@ -166,7 +162,7 @@ loop-less-2 c =
     omega (
       arith,
       missed-less at-less,
-      no-more (args .m) (length (now (args .text))) (at-loop .loop .b + at-less .before .wide16 .result) (at-less .less .result) (spot .window) (spot .rank)
+      no-more (args .m) (now (args .text)) (at-loop .loop .b + at-less .before .wide16 .result) (at-less .less .result) (spot .window) (spot .rank)
           (lead (c .before .before) .0) (c .ahead .ensures .from),
     )
 

@@ -1,9 +1,8 @@
 -- `search::scan::scan` meets its contract. The loop's invariant, `Follows`: the search ends from the loop's state as it does from its start. The
--- measure: in each window to come a turn for each rank, and in this one for those that are left. Assumes nothing.
-use Prim.Native.Nat.{ℕ, suc, _≤_, _<_, _-_, _+_, _*_}
+-- measure: the turns that are left. Assumes nothing.
+use Prim.Native.Nat.{_≤_, _<_, _-_, _+_}
 use mathlib.Core.Path.{_≡_, refl, ap}
 use mathlib.Core.Logic.{inl, inr, ⊎-elim}
-use mathlib.Core.List.{List}
 use native.Mathlib.Omega.{arith}
 use lib.ListN.{length, take, getD}
 use borrow.Author.Needs.{needs}
@@ -15,7 +14,7 @@ use Rattle.rules.specs.Internal.Passing.{Established}
 use Rattle.rules.proofs.Rules.{fewer}
 use Rattle.rules.proofs.Following.{Follows, follows-start}
 use Rattle.search.proofs.LentTables.{in-window, word-length}
-use Rattle.search.proofs.Missing.{no-more}
+use Rattle.search.proofs.Missing.{turns-left, no-more}
 use Rattle.search.proofs.Scanning.{shift-on, scan-done, scan-ahead, scan-known, scan-spent, scan-matched, scan-missed, scan-full, scan-listed}
 use Rattle.search.proofs.scan.scan.Statement.{statement}
 use Rattle.search.proofs.scan.scan.Tie as tie
@@ -23,9 +22,6 @@ use Rattle.search.proofs.scan.scan.Tie as tie
 abbrev Inv-loop : tie.InvT-loop
 Inv-loop bytes order shift next m d text cap positions₀ last first x b₀ i₀ e₀ c₀ k₀ positions b i e c k =
     Follows (colussi-plan (take m bytes)) (take m bytes) text cap positions₀ positions b i e c k
-
-abbrev turns-left : ℕ → List ℕ → ℕ → ℕ → ℕ
-turns-left m text b i = (suc (length text) - b) * suc m + (m - i)
 
 abbrev μ-loop : tie.MeasureT-loop
 μ-loop bytes order shift next m d text cap positions₀ last first x b₀ i₀ e₀ c₀ k₀ positions b i e c k = turns-left m text b i
@@ -211,7 +207,7 @@ loop-less-2 c =
     omega (
       arith,
       missed-less at-leave,
-      no-more (args .m) (length (now (args .text))) (after .window) (after .rank) (spot .window) (spot .rank) (lead (c .before .before) .0) (c .ahead .ensures .from),
+      no-more (args .m) (now (args .text)) (after .window) (after .rank) (spot .window) (spot .rank) (lead (c .before .before) .0) (c .ahead .ensures .from),
     )
 
 loop-again-2 : tie.Need-loop-again-2 Inv-loop μ-loop
