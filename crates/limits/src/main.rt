@@ -1,0 +1,75 @@
+// The program's work at its limits: each input is answered, and the answer's first four lines are printed. What they must be is read off
+// document 01.
+use job::JobAnswer;
+use libc::STDOUT_FILENO;
+ghost use Prim.Native.Nat.{_≤_};
+ghost use lib.ListN.{length};
+
+fn say(text: &[u8]) {
+    io::write_all(STDOUT_FILENO, text);
+}
+
+// The length of the first four lines.
+fn four_lines(text: &[u8]) -> usize
+    ensures { λ r. ⌜ r ≤ length (now (text .entry)) ⌝ }
+{
+    let mut lines: usize = 0;
+    let mut n: usize = 0;
+    while n < text.len() {
+        if lines == 4 {
+            return n;
+        }
+        if text[n] == b'\n' {
+            lines += 1;
+        }
+        n += 1;
+    }
+    n
+}
+
+fn show(what: &[u8], input: &[u8]) {
+    let mut out = [0u8; 196608];
+    say(what);
+    let JobAnswer::Wrote(n) = job::job(input, &mut out) else {
+        say(b"the buffer is too short\n");
+        return;
+    };
+    if out.len() < n {
+        say(b"more was written than the buffer holds\n");
+        return;
+    }
+    let answer = &out[0..n];
+    say(&answer[0..four_lines(answer)]);
+}
+
+// A length byte of 255, and 255 bytes.
+fn show_patterns() {
+    let input = [255u8; 256];
+    show(b"-- no input\n", &input[0..0]);
+    show(b"-- 254 bytes of 255\n", &input[0..255]);
+    show(b"-- 255 bytes of 255\n", &input[0..256]);
+    show(b"-- a length of 0\n", b"\0abc");
+}
+
+// The pattern a, and a text of b.
+fn show_texts() {
+    let mut input = [b'b'; 60003];
+    input[0] = 1;
+    input[1] = b'a';
+    show(b"-- a text of 60,000 bytes\n", &input[0..60002]);
+    show(b"-- a text of 60,001 bytes\n", &input[0..60003]);
+}
+
+// The pattern a, and a text of a.
+fn show_lists() {
+    let mut input = [b'a'; 8195];
+    input[0] = 1;
+    show(b"-- 8,192 positions\n", &input[0..8194]);
+    show(b"-- 8,193 positions\n", &input[0..8195]);
+}
+
+fn main() {
+    show_patterns();
+    show_texts();
+    show_lists();
+}
