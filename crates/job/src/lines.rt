@@ -4,7 +4,6 @@ use super::text::put_decimal;
 use refusal::Refusal;
 use rules::Ending;
 use rules::Report;
-ghost use mathlib.Core.Path.{_≡_};
 ghost use Prim.Native.Nat.{_+_, _*_, _≤_};
 ghost use mathlib.Core.List.{_++_};
 ghost use lib.ListN.{length, take};

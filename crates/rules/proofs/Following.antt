@@ -1,12 +1,12 @@
 -- A loop that follows a search by the rules, and fills the list that was lent. Assumes nothing.
-use Prim.Native.Nat.{ℕ, suc, _+_, _≤_, _<_}
+use Prim.Native.Nat.{ℕ, _+_, _≤_, _<_}
 use mathlib.Core.Path.{_≡_, refl, sym, ap, _∙_}
-use mathlib.Core.List.{List, [], _∷_, _++_}
+use mathlib.Core.List.{List, []}
 use native.Mathlib.Omega.{arith}
 use native.Mathlib.Numerals.{add-one}
 use lib.ListN.{length, take, drop, set, length-set, take-append-drop}
 use lib.Seq.{take-suc-set, drop-set-lt, length-take-le, drop-drop}
-use Rattle.rules.specs.Rules.{Plan, Compared, State, stop, edge-after, leave, listed, turn, End, rest, search}
+use Rattle.rules.specs.Rules.{Plan, Compared, stop, edge-after, leave, listed, turn, rest, search}
 use Rattle.rules.specs.Report.{reportOf, filled, Reported}
 use Rattle.rules.specs.Internal.Passing.{Established, Due, at, Passes}
 use Rattle.rules.specs.declared.Ending.{Ending}

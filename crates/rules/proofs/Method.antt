@@ -5,7 +5,7 @@ use mathlib.Core.Path.{_≡_, refl, sym, ap, _∙_}
 use mathlib.Core.List.{List, [], _∷_, _++_}
 use native.Mathlib.Omega.{arith}
 use lib.ListN.{length, length-append}
-use Rattle.rules.specs.Rules.{Plan, State, start, Turn, stop, go, edge-after, leave, listed, compared, matched, missed, turn, End, search}
+use Rattle.rules.specs.Rules.{Plan, State, start, Turn, edge-after, leave, listed, compared, matched, missed, turn, search}
 use Rattle.rules.specs.Occurs.{Occurs, occurrences-below, occurrences}
 use Rattle.rules.specs.Promise.{Lists, CutOff}
 use Rattle.rules.specs.declared.Ending.{Ending}
@@ -13,7 +13,7 @@ use Rattle.rules.specs.declared.Ending.the-variants.{Done, Spent, Full}
 use Rattle.rules.specs.Internal.Passing.{Established, Due, Agree}
 use Rattle.rules.proofs.Turns.{Keeps}
 use Rattle.rules.proofs.Rules.{Rule, past, fills, lists, spends, matches, misses, rule, Moving, search-keeps}
-use Rattle.rules.proofs.Occurs.{None, Bounds, below-none, below-one, below-all}
+use Rattle.rules.proofs.Occurs.{None, below-none, below-one, below-all}
 use Rattle.rules.proofs.Occurs as occurs
 
 -- Once window b is left with rank r: the invariant holds in the next window, and no occurrence lies between.

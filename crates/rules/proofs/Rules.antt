@@ -1,17 +1,17 @@
 -- One law for each rule, and which rule applies. Assumes nothing.
-use Prim.Native.Nat.{ℕ, zero, suc, _+_, _-_, _*_, _≤_, _<_}
+use Prim.Native.Nat.{ℕ, suc, _+_, _-_, _*_, _≤_, _<_}
 use mathlib.Core.Path.{_≡_, refl, sym, _∙_}
 use mathlib.Core.Logic.{_⊎_, inl, inr, ⊎-elim}
-use mathlib.Core.Bool.{Bool, true, false, _||_, or-true}
-use mathlib.Core.List.{List, [], _∷_, _++_}
+use mathlib.Core.Bool.{true, false, or-true}
+use mathlib.Core.List.{List}
 use native.Mathlib.Omega.{arith}
 use native.Mathlib.Nat.{mul-le-mul-right}
-use lib.Dec.{ltb, leb, eqb}
+use lib.Dec.{leb, eqb}
 use lib.ListN.{length}
 use borrow.Author.Tests.{lt-ltb, le-ltb, le-leb, lt-leb, eq-eqb, ne-eqb, eqb-true, eqb-false}
 use Rattle.words.specs.Tables.{letter}
 use Rattle.words.proofs.Cases.{less-or, true-or-false}
-use Rattle.rules.specs.Rules.{Plan, Compared, State, start, Turn, stop, go, established, edge-after, leave, listed, agree, compared, matched, missed, occurrence, comparison, turn, End, enough, rest, search}
+use Rattle.rules.specs.Rules.{Plan, State, start, Turn, stop, go, established, edge-after, leave, listed, agree, compared, matched, missed, occurrence, comparison, turn, rest, search}
 use Rattle.rules.specs.Internal.Passing.{Established, Due, Agree}
 use Rattle.rules.specs.declared.Ending.{Ending}
 use Rattle.rules.specs.declared.Ending.the-variants.{Done, Spent, Full}

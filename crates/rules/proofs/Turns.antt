@@ -1,5 +1,5 @@
 -- A search as turns, where some number falls with each turn that goes on: what one turn does to the whole. Assumes nothing.
-use Prim.Native.Nat.{ℕ, zero, suc, _≤_, _<_}
+use Prim.Native.Nat.{ℕ, zero, suc, _<_}
 use mathlib.Core.Path.{_≡_, refl}
 use native.Mathlib.Omega.{arith}
 use Rattle.rules.specs.Rules.{State, Turn, stop, go, End, turns}

@@ -1,7 +1,7 @@
 -- The scan in Colussi's order, in the terms of its code. Assumes nothing.
-use Prim.Native.Nat.{ℕ, suc, _+_, _≤_, _<_}
+use Prim.Native.Nat.{ℕ, _+_, _≤_, _<_}
 use mathlib.Core.Path.{_≡_, refl, sym, ap, _∙_}
-use mathlib.Core.Logic.{inl, inr, ⊎-elim}
+use mathlib.Core.Logic.{inr, ⊎-elim}
 use mathlib.Core.List.{List}
 use native.Mathlib.Omega.{arith}
 use native.Mathlib.Numerals.{add-one}
@@ -13,7 +13,7 @@ use Rattle.words.proofs.Cases.{less-or}
 use Rattle.words.proofs.Shifts.{shift-moves, next-upto, shift-first, next-first}
 use Rattle.rules.specs.Rules.{edge-after}
 use Rattle.rules.specs.Colussi.{colussi-plan, colussi}
-use Rattle.rules.specs.Internal.Passing.{Established, Due, Agree}
+use Rattle.rules.specs.Internal.Passing.{Established, Due}
 use Rattle.rules.specs.Report.{Reported}
 use Rattle.rules.specs.declared.Ending.the-variants.{Done, Spent, Full}
 use Rattle.rules.proofs.Rules.{Moving, edge-kept, edge-moved}

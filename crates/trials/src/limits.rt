@@ -1,6 +1,6 @@
 // The caps and list sizes that a pattern and a text are searched with.
 use super::draw;
-ghost use Prim.Native.Nat.{_≤_, _<_};
+ghost use Prim.Native.Nat.{_≤_};
 
 // More entries than a text here has positions.
 pub const LIST: usize = 640;

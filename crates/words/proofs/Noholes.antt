@@ -1,6 +1,6 @@
 -- What hmax, nohole, kmin and rmin of a word are, and how its noholes are counted: the rest of part A of the proof. Assumes nothing.
 use Prim.Native.Nat.{ℕ, suc, _+_, _-_, _*_, _/_, _≤_, _<_, min}
-use mathlib.Core.Path.{_≡_, refl, sym, ap, _∙_}
+use mathlib.Core.Path.{_≡_, refl, ap, _∙_}
 use mathlib.Core.Logic.{_⊎_, inl, inr, ⊎-elim, _↔_}
 use mathlib.Core.Bool.{Bool, true, false, not, _&&_}
 use mathlib.Core.List.{List}
@@ -8,11 +8,11 @@ use native.Mathlib.Omega.{arith}
 use lib.Dec.{ltb, eqb}
 use lib.ListN.{length}
 use borrow.Author.Tests.{ltb-true, lt-ltb, eqb-true, eqb-false, eq-eqb, not-true, not-false}
-use Rattle.words.specs.Numbers.{first, some, every, count}
+use Rattle.words.specs.Numbers.{count}
 use Rattle.words.specs.Tables.{letter, period, hmax, nohole, kmin, rmin, below}
 use Rattle.words.proofs.Cases.{less-or, true-or-false, both-true, not-both}
 use Rattle.words.proofs.Numbers.{First, first-is, some-of, some-is, every-of, every-is, count-split, count-mono, count-either, pigeonholes}
-use Rattle.words.proofs.Periods.{Periodic, MaxPP, periodic-prefix, early-break, longest-up, longest-down, longest-unique}
+use Rattle.words.proofs.Periods.{Periodic, MaxPP, early-break, longest-up, longest-down, longest-unique}
 
 module _ (w : List ℕ) where
   -- ---- Periods of the whole word

@@ -2,7 +2,7 @@
 use Prim.Native.Nat.{ℕ, suc, _+_, _-_, _≤_, _<_}
 use mathlib.Core.Path.{_≡_, refl, sym, ap, _∙_}
 use mathlib.Core.Logic.{⊎-elim}
-use mathlib.Core.Bool.{Bool, true, false, not}
+use mathlib.Core.Bool.{true, false}
 use mathlib.Core.List.{List, _++_}
 use native.Mathlib.Omega.{arith}
 use lib.Dec.{eqb}
@@ -12,8 +12,8 @@ use borrow.Author.Tests.{eq-eqb, ne-eqb, not-true}
 use Rattle.words.specs.Numbers.{count, ascending, descending}
 use Rattle.words.specs.Tables.{nohole, hole, below, noholes, order, place, rank}
 use Rattle.words.proofs.Cases.{less-or, true-or-false, not-both}
-use Rattle.words.proofs.Numbers.{First, first-is, first-unique, count-le, count-hit, count-miss, count-grows, rest-grows, count-unique}
-use Rattle.words.proofs.Listing.{length-ascending, AscendingAt, ascending-at, length-descending, DescendingAt, descending-at, count-not}
+use Rattle.words.proofs.Numbers.{first-is, first-unique, count-le, count-hit, count-miss, count-grows, rest-grows, count-unique}
+use Rattle.words.proofs.Listing.{length-ascending, ascending-at, length-descending, descending-at, count-not}
 use Rattle.words.proofs.Noholes.{nohole-inside}
 
 module _ (w : List ℕ) where

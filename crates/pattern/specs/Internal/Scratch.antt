@@ -1,5 +1,5 @@
 -- What the scratch holds between the steps of preparation: hmax(k) at entry k, kmin(p) at 257 + p, below(p) at 514 + p.
-use Prim.Native.Nat.{ℕ, suc, _+_, _*_, _≤_, _<_}
+use Prim.Native.Nat.{ℕ, _+_, _*_, _≤_, _<_}
 use mathlib.Core.Path.{_≡_}
 use mathlib.Core.List.{List}
 use lib.ListN.{length, getD, drop}
