@@ -203,35 +203,15 @@ static bool measure_rows(struct row *row, bool first)
     return agreed;
 }
 
-static bool misses_a_target(const struct row *row)
-{
-    return ratio(row, COLUSSI, C_COLUSSI) < (row->kind == &kinds[0] ? LEAST_RATIO_OF_256 : LEAST_RATIO)
-        || ratio(row, KMP, C_KMP) < LEAST_RATIO;
-}
-
-/* As often again, where a target is missed: a slow spell makes a search look slower, and nothing makes it look faster. */
-static void measure_misses_again(struct row rows[ROWS])
-{
-    for (struct row *row = rows; row < rows + ROWS; row++) {
-        if (!misses_a_target(row))
-            continue;
-        struct subject subject = make_subject(row->kind, row->m, POQEWAN_LONGEST_TEXT, row->m);
-        subject.n = row->size->n;
-        for (int turn = 0; turn < MEASUREMENTS; turn++)
-            measure(row, &subject);
-    }
-}
-
 /* Whether all searches agreed. */
 static bool throughput(struct row rows[ROWS])
 {
     bool agreed = measure_rows(rows, true);
     for (int turn = 1; turn < MEASUREMENTS; turn++)
         measure_rows(rows, false);
-    measure_misses_again(rows);
     puts("## Throughput\n\n"
-         "In MB (1,000,000 bytes) of text a second, the best of five measurements, or of ten on a row that would miss a target with five.\n"
-         "\"C\" is the same search by the same rules in plain C, and a ratio is ours to it. The count is that of Colussi's order; its ceiling is (3n - m) / 2.\n\n"
+         "In MB (1,000,000 bytes) of text a second, the best of five measurements. \"C\" is the same search by the same rules in plain\n"
+         "C, and a ratio is ours to it. The count is that of Colussi's order; its ceiling is (3n - m) / 2.\n\n"
          "| text, pattern         | n      | m   | Colussi | in C  | ratio | KMP   | in C  | ratio | naive | memmem | count    | "
          "ceiling  | % of it |\n"
          "|-----------------------|-------:|----:|--------:|------:|------:|------:|------:|------:|------:|-------:|---------:|"
@@ -387,9 +367,6 @@ static void growths(struct growth by_kind[COUNT_OF(kinds)])
             measure_growth(&by_kind[k], find_pattern, &kinds[k], turn == 0);
         measure_growth(&loop, find_b, &absent, turn == 0);
     }
-    for (size_t k = 0; k < COUNT_OF(kinds); k++)
-        for (int turn = 0; turn < MEASUREMENTS && spread(&by_kind[k]) > GREATEST_SPREAD; turn++)
-            measure_growth(&by_kind[k], find_pattern, &kinds[k], false);
     puts("\n## Time per byte\n\n"
          "In nanoseconds, of the search in Colussi's order with m = 16, over the same 16 MiB of text in pieces of each size, one after\n"
          "the other. The spread is that of the slowest over the fastest. The last row is a loop in C for one byte that is absent.\n\n"
