@@ -1,7 +1,8 @@
 /*
  * Measures the library against plain C by the same rules and prints, in Markdown: the throughput of the searches; the cost
  * of preparation and of the check of a pattern; the time per byte as the text grows; and whether each target holds. With the
- * argument --counts it prints counts and ceilings instead, for the picture.
+ * argument --counts it prints counts and ceilings instead, for the picture; with --singles how the times of single searches are
+ * spread.
  *
  * It exits with 1 if two searches differ in an answer. A missed target is printed and no more: times depend on the machine.
  */
@@ -490,6 +491,30 @@ static void counts(void)
         }
 }
 
+/* Single searches, in turn, by ours and by the C: what a slow spell of the machine does to both. Of 64 KiB of one letter, where
+   every window is listed. */
+#define SINGLES 3000
+#define CLASSES 12
+
+/* The class of a time per byte: each has a quarter of a nanosecond, from 1; the last has all that is longer. */
+static size_t class_of(double nanoseconds)
+{
+    return nanoseconds < 1 ? 0 : (size_t)fmin((nanoseconds - 1) * 4, CLASSES - 1);
+}
+
+static void singles(void)
+{
+    const enum search searches[] = {COLUSSI, C_COLUSSI};
+    struct subject subject = make_subject(&kinds[4], 16, sizes[0].n, 16);
+    size_t tally[COUNT_OF(searches)][CLASSES] = {{0}};
+    for (int single = 0; single < SINGLES; single++)
+        for (size_t s = 0; s < COUNT_OF(searches); s++)
+            tally[s][class_of(run_times(searches[s], &subject, 1) / (double)subject.n * 1e9)]++;
+    puts("| ns per byte, from | ours | in C |\n|------------------:|-----:|-----:|");
+    for (size_t class = 0; class < CLASSES; class++)
+        printf("| %17.2f | %4zu | %4zu |\n", 1 + (double)class / 4, tally[0][class], tally[1][class]);
+}
+
 int main(int argc, char **argv)
 {
     setvbuf(stdout, NULL, _IOLBF, 0);
@@ -498,6 +523,10 @@ int main(int argc, char **argv)
     lists.other = touched(POQEWAN_LONGEST_TEXT * sizeof *lists.other);
     if (argc > 1 && strcmp(argv[1], "--counts") == 0) {
         counts();
+        return 0;
+    }
+    if (argc > 1 && strcmp(argv[1], "--singles") == 0) {
+        singles();
         return 0;
     }
     return measurements() ? 0 : 1;
