@@ -16,8 +16,6 @@
 #include <stdlib.h>
 #include <string.h>
 
-#define COUNT_OF(array) (sizeof(array) / sizeof *(array))
-
 /* The fastest of so many measurements counts, each of about so many seconds or of one run. */
 #define MEASUREMENTS 5
 #define MEASUREMENT 1e-2
@@ -33,22 +31,6 @@
 /* A search that counts nothing, and is there for orientation, is measured once if it takes more than so many seconds. */
 #define SLOW 0.1
 
-struct kind {
-    const char *name;
-    pattern_maker *pattern;
-    text_maker *text;
-};
-
-static const struct kind kinds[] = {
-    {"random, 256 letters", random_256, text_of_256},
-    {"random, 4 letters", random_4, text_of_4},
-    {"random, 2 letters", random_2, text_of_2},
-    {"a^n, a^(m-1)b", last_differs, equal_text},
-    {"a^n, a^m", one_letter, equal_text},
-    {"pieces of the pattern", random_4, pieces_text},
-    {"record with flutters", flutter, record_text},
-};
-
 /* The last comes nearest to the ceiling: `worst` finds no greater count for any short pattern of two letters in any text. */
 static const struct kind counted_kinds[] = {
     {"random, 256 letters", random_256, text_of_256},
@@ -61,38 +43,9 @@ static const struct kind counted_kinds[] = {
     {"a^kba^k, repeated", middle_differs, repeated_text},
 };
 
-struct family {
-    const char *name;
-    pattern_maker *make;
-};
-
-static const struct family families[] = {
-    {"random, 256 letters", random_256}, {"random, 4 letters", random_4}, {"random, 2 letters", random_2},
-    {"one letter", one_letter},          {"a^(m-1)b", last_differs},      {"period 3", period_3},
-    {"Fibonacci word", fibonacci},
-};
-
-struct size {
-    const char *name;
-    size_t n;
-};
-
-static const struct size sizes[] = {{"64 KiB", 65536}, {"1 MiB", 1048576}, {"16 MiB", POQEWAN_LONGEST_TEXT}};
-
 /* Lent to every search, and of the greatest length. */
 static uint8_t *text;
 static struct lists lists;
-
-/* Written once, so that no measurement pays for the first touch of a page. */
-static void *touched(size_t bytes)
-{
-    void *memory = malloc(bytes);
-    if (memory == NULL) {
-        fputs("bench: no memory\n", stderr);
-        exit(1);
-    }
-    return memset(memory, 1, bytes);
-}
 
 static poqewan_pattern prepare(const uint8_t *bytes, size_t m)
 {
@@ -104,15 +57,11 @@ static poqewan_pattern prepare(const uint8_t *bytes, size_t m)
 static struct subject make_subject(const struct kind *kind, size_t m, size_t n, uint64_t number)
 {
     uint8_t bytes[POQEWAN_LONGEST_PATTERN];
-    seed(number);
-    kind->pattern(bytes, m);
-    kind->text(bytes, m, text, n);
+    make_input(kind, bytes, m, text, n, number);
     return (struct subject){prepare(bytes, m), text, n};
 }
 
 /* Throughput. */
-
-static const size_t lengths[] = {4, 16, 64, 256};
 
 struct row {
     const struct kind *kind;
@@ -232,17 +181,15 @@ struct cost {
 
 typedef struct cost cost_table[COUNT_OF(families)][COUNT_OF(checked_lengths)];
 
-/* A cost is the mean over many patterns in turn, all different if the family is random: one pattern, or a few, the branch
-   predictor would learn. */
-static uint8_t bytes_in_turn[256][POQEWAN_LONGEST_PATTERN];
-static poqewan_pattern patterns_in_turn[COUNT_OF(bytes_in_turn)];
+static uint8_t bytes_in_turn[IN_TURN][POQEWAN_LONGEST_PATTERN];
+static poqewan_pattern patterns_in_turn[IN_TURN];
 
 static double prepare_all(size_t m, size_t times)
 {
     uint16_t scratch[POQEWAN_SCRATCH];
     double start = now();
     for (size_t time = 0; time < times; time++)
-        for (size_t i = 0; i < COUNT_OF(bytes_in_turn); i++)
+        for (size_t i = 0; i < IN_TURN; i++)
             poqewan_prepare(bytes_in_turn[i], m, scratch, POQEWAN_SCRATCH);
     return (now() - start) / (double)times;
 }
@@ -251,22 +198,19 @@ static double check_all(size_t times)
 {
     double start = now();
     for (size_t time = 0; time < times; time++)
-        for (size_t i = 0; i < COUNT_OF(patterns_in_turn); i++)
+        for (size_t i = 0; i < IN_TURN; i++)
             poqewan_colussi(patterns_in_turn[i], NULL, 0, 0, NULL, 0);
     return (now() - start) / (double)times;
 }
 
 static struct cost measure_cost(const struct family *family, size_t m)
 {
-    const double calls = COUNT_OF(bytes_in_turn);
-    seed(m);
-    for (size_t i = 0; i < COUNT_OF(bytes_in_turn); i++) {
-        family->make(bytes_in_turn[i], m);
+    make_in_turn(family, bytes_in_turn, m);
+    for (size_t i = 0; i < IN_TURN; i++)
         patterns_in_turn[i] = prepare(bytes_in_turn[i], m);
-    }
     double prepare = prepare_all(m, times_for(prepare_all(m, 1)));
     double check = check_all(times_for(check_all(1)));
-    return (struct cost){prepare / calls, check / calls};
+    return (struct cost){prepare / IN_TURN, check / IN_TURN};
 }
 
 static void measure_costs(cost_table best)
@@ -519,8 +463,7 @@ int main(int argc, char **argv)
 {
     setvbuf(stdout, NULL, _IOLBF, 0);
     text = touched(POQEWAN_LONGEST_TEXT);
-    lists.one = touched(POQEWAN_LONGEST_TEXT * sizeof *lists.one);
-    lists.other = touched(POQEWAN_LONGEST_TEXT * sizeof *lists.other);
+    lists = touched_lists(POQEWAN_LONGEST_TEXT);
     if (argc > 1 && strcmp(argv[1], "--counts") == 0) {
         counts();
         return 0;

@@ -13,7 +13,8 @@ static uint64_t draw(void)
     return state;
 }
 
-void seed(uint64_t number)
+/* Starts the generator afresh. */
+static void seed(uint64_t number)
 {
     state = number + 88172645463325252u;
     for (int i = 0; i < 16; i++) /* near seeds begin with near numbers */
@@ -200,4 +201,38 @@ void record_text(const uint8_t *bytes, size_t m, uint8_t *text, size_t n)
         for (size_t quiet = 5 + below(21); quiet > 0; quiet--)
             put(&rest, 1 + below(20));
     }
+}
+
+const struct kind kinds[7] = {
+    {"random, 256 letters", random_256, text_of_256},
+    {"random, 4 letters", random_4, text_of_4},
+    {"random, 2 letters", random_2, text_of_2},
+    {"a^n, a^(m-1)b", last_differs, equal_text},
+    {"a^n, a^m", one_letter, equal_text},
+    {"pieces of the pattern", random_4, pieces_text},
+    {"record with flutters", flutter, record_text},
+};
+
+const struct size sizes[3] = {{"64 KiB", 65536}, {"1 MiB", 1048576}, {"16 MiB", POQEWAN_LONGEST_TEXT}};
+
+const size_t lengths[4] = {4, 16, 64, 256};
+
+const struct family families[7] = {
+    {"random, 256 letters", random_256}, {"random, 4 letters", random_4}, {"random, 2 letters", random_2},
+    {"one letter", one_letter},          {"a^(m-1)b", last_differs},      {"period 3", period_3},
+    {"Fibonacci word", fibonacci},
+};
+
+void make_input(const struct kind *kind, uint8_t *bytes, size_t m, uint8_t *text, size_t n, uint64_t number)
+{
+    seed(number);
+    kind->pattern(bytes, m);
+    kind->text(bytes, m, text, n);
+}
+
+void make_in_turn(const struct family *family, uint8_t bytes[IN_TURN][POQEWAN_LONGEST_PATTERN], size_t m)
+{
+    seed(m);
+    for (size_t i = 0; i < IN_TURN; i++)
+        family->make(bytes[i], m);
 }

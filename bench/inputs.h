@@ -2,11 +2,7 @@
 #ifndef INPUTS_H
 #define INPUTS_H
 
-#include <stddef.h>
-#include <stdint.h>
-
-/* Starts the generator afresh. */
-void seed(uint64_t number);
+#include <poqewan.h>
 
 /* Families of patterns: each writes m bytes. */
 typedef void pattern_maker(uint8_t *bytes, size_t m);
@@ -31,5 +27,37 @@ text_maker fibonacci_text; /* the same word, longer */
 text_maker pieces_text;    /* random pieces of the pattern */
 text_maker repeated_text;  /* the pattern again and again */
 text_maker record_text;    /* reflections of a hall, with flutters */
+
+/* What is measured: texts with their patterns, at these sizes and lengths; and patterns without a text. */
+struct kind {
+    const char *name;
+    pattern_maker *pattern;
+    text_maker *text;
+};
+
+struct family {
+    const char *name;
+    pattern_maker *make;
+};
+
+struct size {
+    const char *name;
+    size_t n;
+};
+
+extern const struct kind kinds[7];
+extern const struct size sizes[3];
+extern const size_t lengths[4];
+extern const struct family families[7];
+
+#define COUNT_OF(array) (sizeof(array) / sizeof *(array))
+
+/* Writes a pattern of a kind and its text, by the generator started afresh with that number. */
+void make_input(const struct kind *kind, uint8_t *bytes, size_t m, uint8_t *text, size_t n, uint64_t number);
+
+/* A cost is the mean over many patterns in turn, all different if the family is random: one pattern, or a few, the branch
+   predictor would learn. */
+#define IN_TURN 256
+void make_in_turn(const struct family *family, uint8_t bytes[IN_TURN][POQEWAN_LONGEST_PATTERN], size_t m);
 
 #endif

@@ -9,14 +9,13 @@ ghost use mathlib.Core.Path.{_≡_};
 ghost use Prim.Native.Nat.{_+_, _*_, _≤_, _<_};
 ghost use lib.ListN.{length};
 ghost use Rattle.charge.specs.Charged.{charged};
-ghost use Rattle.pattern.specs.Check.{ownBytes};
+ghost use Rattle.pattern.specs.Letters.{wordOf, textOf};
 ghost use Rattle.pattern.specs.Prepared.{prepared, scratchAfter};
 ghost use Rattle.rules.specs.Colussi.{colussi};
 ghost use Rattle.rules.specs.Kmp.{kmp};
-ghost use Rattle.rules.specs.Promise.{Ceiling, KmpCeiling};
 ghost use Rattle.search.specs.Answer.{answerBy, listBy};
-ghost use Rattle.search.specs.Promise.{Located};
-ghost use Rattle.exports.specs.Carried.{outcomeNumber, carriedPreparation, carriedReport, carried, reportIn};
+ghost use Rattle.search.specs.Promise.{Located, UnderCeiling, UnderKmpCeiling, AsColussi};
+ghost use Rattle.exports.specs.Carried.{outcomeNumber, carriedPreparation, endingNumber, endingWindow, carriedReport, carried, reportIn};
 
 // The number of a refusal, or 0, and the pattern, which is all zero beside a refusal.
 #[repr(C)]
@@ -46,34 +45,35 @@ fn outcome_number(outcome: Outcome) -> u32
     }
 }
 
+fn ending_number(ending: Ending) -> u32
+    ensures { λ r. ⌜ r ≡ endingNumber ending ⌝ }
+{
+    match ending {
+        Ending::Done => 0,
+        Ending::Spent(_) => 1,
+        Ending::Full(_) => 2,
+    }
+}
+
+fn ending_window(ending: Ending) -> usize
+    ensures { λ r. ⌜ r ≡ endingWindow ending ⌝ }
+{
+    match ending {
+        Ending::Done => 0,
+        Ending::Spent(window) | Ending::Full(window) => window,
+    }
+}
+
 fn carry_report(report: Report) -> SearchReport
     ensures { λ r. ⌜ r ≡ carriedReport report ⌝ }
 {
-    let count = report.count;
-    let written = report.written;
     let ending = report.ending;
-    match ending {
-        Ending::Done => SearchReport {
-            refusal: 0,
-            ending: 0,
-            window: 0,
-            count,
-            written,
-        },
-        Ending::Spent(window) => SearchReport {
-            refusal: 0,
-            ending: 1,
-            window,
-            count,
-            written,
-        },
-        Ending::Full(window) => SearchReport {
-            refusal: 0,
-            ending: 2,
-            window,
-            count,
-            written,
-        },
+    SearchReport {
+        refusal: 0,
+        ending: ending_number(ending),
+        window: ending_window(ending),
+        count: report.count,
+        written: report.written,
     }
 }
 
@@ -118,13 +118,14 @@ pub extern "C" fn poqewan_colussi(
 ) -> SearchReport
     ensures answer { λ r. ⌜ r ≡ carried (answerBy colussi pattern (now (text .entry)) cap (length (now (positions .entry)))) ⌝ }
     ensures list { λ r. ⌜ now (positions .exit) ≡ listBy colussi pattern (now (text .entry)) cap (now (positions .entry)) ⌝ }
-    ensures accurate { λ r. ⌜ (r .refusal ≡ 0 → Located (ownBytes pattern) (now (text .entry)) cap (now (positions .exit)) (reportIn r)) ⌝ }
-    ensures ceiling { λ r. ⌜ (r .refusal ≡ 0 → Ceiling (length (ownBytes pattern)) (length (now (text .entry))) (reportIn r .ending) (r .count)) ⌝ }
+    ensures accurate { λ r. ⌜ (r .refusal ≡ 0 → Located colussi (wordOf pattern) (textOf pattern (now (text .entry))) cap (now (positions .exit)) (reportIn r)) ⌝ }
+    ensures ceiling { λ r. ⌜ (r .refusal ≡ 0 → UnderCeiling (length (wordOf pattern)) (length (now (text .entry))) (reportIn r)) ⌝ }
 {
     carry(search::colussi(pattern, text, cap, positions))
 }
 
-// Searches a text by Knuth, Morris and Pratt, with the same report, endings, refusals and list.
+// Searches a text by Knuth, Morris and Pratt, with the same report, endings, refusals and list. Run to its end, it lists what
+// `poqewan_colussi` lists.
 #[no_mangle]
 pub extern "C" fn poqewan_kmp(
     pattern: Pattern,
@@ -134,8 +135,9 @@ pub extern "C" fn poqewan_kmp(
 ) -> SearchReport
     ensures answer { λ r. ⌜ r ≡ carried (answerBy kmp pattern (now (text .entry)) cap (length (now (positions .entry)))) ⌝ }
     ensures list { λ r. ⌜ now (positions .exit) ≡ listBy kmp pattern (now (text .entry)) cap (now (positions .entry)) ⌝ }
-    ensures accurate { λ r. ⌜ (r .refusal ≡ 0 → Located (ownBytes pattern) (now (text .entry)) cap (now (positions .exit)) (reportIn r)) ⌝ }
-    ensures ceiling { λ r. ⌜ (r .refusal ≡ 0 → KmpCeiling (length (ownBytes pattern)) (length (now (text .entry))) (reportIn r .ending) (r .count)) ⌝ }
+    ensures accurate { λ r. ⌜ (r .refusal ≡ 0 → Located kmp (wordOf pattern) (textOf pattern (now (text .entry))) cap (now (positions .exit)) (reportIn r)) ⌝ }
+    ensures ceiling { λ r. ⌜ (r .refusal ≡ 0 → UnderKmpCeiling (length (wordOf pattern)) (length (now (text .entry))) (reportIn r)) ⌝ }
+    ensures same { λ r. ⌜ (r .refusal ≡ 0 → AsColussi (wordOf pattern) (textOf pattern (now (text .entry))) (now (positions .exit)) (reportIn r)) ⌝ }
 {
     carry(search::kmp(pattern, text, cap, positions))
 }

@@ -5,11 +5,18 @@ use mathlib.Core.List.{List}
 use native.Mathlib.Omega.{arith}
 use lib.ListN.{length, take, drop, length-append}
 use lib.Seq.{take-append-seam}
+use Rattle.admission.specs.Admitted.{longestText, admitted}
+use Rattle.admission.specs.declared.Admission.the-variants.{Admitted}
+use Rattle.admission.proofs.Admitting.{admitted-of}
+use Rattle.pattern.specs.Check.{ownBytes}
+use Rattle.pattern.specs.Letters.{wordOf}
 use Rattle.pattern.specs.Prepared.{patternOf, prepared}
 use Rattle.pattern.specs.declared.Prepared.{Prepared}
 use Rattle.refusal.specs.declared.Refusal.{Refusal}
 use Rattle.pattern.proofs.Answers.{ready, ready-answer}
 use Rattle.pattern.proofs.Again.{own-bytes, prepared-again}
+use Rattle.pattern.proofs.Checked.{is-prepared}
+use Rattle.pattern.proofs.Letters.{word-own, text-own}
 use Rattle.rules.specs.Rules.{End}
 use Rattle.rules.specs.Colussi.{colussi}
 use Rattle.rules.specs.Report.{reportOf, filled}
@@ -17,7 +24,7 @@ use Rattle.rules.specs.declared.Report.{Report}
 use Rattle.search.specs.Answer.{answerBy, listBy}
 use Rattle.search.specs.declared.SearchAnswer.{SearchAnswer}
 use Rattle.search.specs.declared.SearchAnswer.the-variants.{Ran, Refused}
-use Rattle.search.proofs.Answers.{ran}
+use Rattle.search.proofs.Answers.{ran-answer, ran-list}
 use Rattle.job.specs.Printed.{report-lines, search-lines}
 
 -- ---- A search that ran
@@ -55,20 +62,24 @@ lines-of-found {s = s} F = rw (F .positions, F .report) (sym (lines-of-search s)
 
 -- ---- The search for bytes that were just prepared
 
-module _ (w t : List ℕ) (some : 1 ≤ length w) (short : length w ≤ 256) (fits : length t ≤ 16777216)
+module _ (w t : List ℕ) (some : 1 ≤ length w) (short : length w ≤ 256) (fits : length t ≤ longestText)
     {q : Prepared} (ready-made : q ≡ prepared w 771) (cap : ℕ) (lent : List ℕ) where
   pattern-is : q .pattern ≡ patternOf w
   pattern-is = ap (λ (a : Prepared). a .pattern) (ready-made ∙ ready-answer w 771 (ready w 771 some short (omega arith)))
 
-  runs : answerBy colussi (q .pattern) t cap (length lent) ≡ Ran (reportOf (colussi w t cap (length lent)))
-  runs = rw pattern-is (rw (own-bytes w) at (ran colussi (patternOf w) t cap (length lent) (prepared-again w some short) fits))
+  -- Its letters are the bytes.
+  letters : wordOf (q .pattern) ≡ w
+  letters = word-own (q .pattern) ∙ ap ownBytes pattern-is ∙ own-bytes w
 
-  fills : listBy colussi (q .pattern) t cap lent ≡ filled (colussi w t cap (length lent)) lent
-  unfolding listBy
-  fills = rw (runs, pattern-is, own-bytes w, listBy) refl
+  let-in : admitted (q .pattern) (length t) ≡ Admitted
+  let-in = admitted-of (q .pattern) (length t)
+      record { prepared = is-prepared (q .pattern) .0 (rw pattern-is (prepared-again w some short)); fits = fits }
 
   -- What it answers, and what it leaves in the list.
   pub prepared-runs : {a : SearchAnswer} {after : List ℕ}
       → a ≡ answerBy colussi (q .pattern) t cap (length lent) → after ≡ listBy colussi (q .pattern) t cap lent
       → (a ≡ Ran (reportOf (colussi w t cap (length lent)))) × (after ≡ filled (colussi w t cap (length lent)) lent)
-  prepared-runs e l = (e ∙ runs, l ∙ fills)
+  prepared-runs e l = (
+    e ∙ rw (letters, text-own (q .pattern) t) at (ran-answer colussi (q .pattern) t cap lent let-in),
+    l ∙ rw (letters, text-own (q .pattern) t) at (ran-list colussi (q .pattern) t cap lent let-in),
+  )

@@ -4,7 +4,8 @@ use mathlib.Core.Path.{_≡_, refl, sym, _∙_}
 use mathlib.Core.Logic.{⊎-elim}
 use mathlib.Core.List.{List, _++_}
 use native.Mathlib.Omega.{arith}
-use lib.ListN.{length, drop, replicate}
+use lib.ListN.{length, take, drop, replicate}
+use lib.Seq.{length-take-le}
 use borrow.Author.Tests.{eq-eqb, ne-eqb, lt-ltb, le-ltb}
 use Rattle.words.specs.Tables.{noholes}
 use Rattle.words.proofs.Cases.{less-or}
@@ -80,7 +81,7 @@ module _ (w s : List ℕ) where
 
   -- Success: the first part of t, what the scratch then holds, was filled with zeros, and the rest is as it was.
   pub success : {p : Pattern} {part : List ℕ} (t : List ℕ)
-      → outcomeOf w (length s) ≡ Ready → p ≡ patternOf w → part ≡ replicate 771 0 → RestKept s t
+      → outcomeOf w (length s) ≡ Ready → p ≡ patternOf w → 771 ≤ length t → part ≡ replicate (length (take 771 t)) 0 → RestKept s t
       → (record { outcome = Ready; pattern = p } ≡ prepared w (length s)) × (part ++ drop 771 t ≡ scratchAfter w s)
   unfolding scratchAfter
-  success t e q f k = (rw q (sym (ready-answer w (length s) e)), rw (e, f, k, scratchAfter) refl)
+  success t e q l f k = (rw q (sym (ready-answer w (length s) e)), rw (e, f, length-take-le 771 t l, k, scratchAfter) refl)

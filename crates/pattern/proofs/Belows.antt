@@ -9,7 +9,7 @@ use Rattle.words.specs.Tables.{kmin, below}
 use Rattle.words.proofs.Noholes.{kmin-nohole, kmin-hole}
 use Rattle.words.proofs.Ranks.{below-nohole, below-hole}
 use Rattle.pattern.specs.Internal.Scratch.{Sizes, HasHmax, HasKmin, HasBelow}
-use Rattle.pattern.proofs.Stores.{Kept, after-store, kept-store, hmax-kept, kmin-kept}
+use Rattle.pattern.proofs.Stores.{KeptRest, after-store, kept-store, hmax-kept, kmin-kept}
 
 -- ---- The count of one place more
 
@@ -26,7 +26,7 @@ pub record Counted (w before s : List ℕ) (n : ℕ) : Type 0 where
   pub hmaxes : HasHmax w s (length w + 1)
   pub kmins : HasKmin w s
   pub belows : HasBelow w s n
-  pub kept : Kept before s
+  pub kept : KeptRest before s
 
 -- The store of one count more.
 pub counted-store :

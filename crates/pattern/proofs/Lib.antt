@@ -10,5 +10,6 @@ pub mod Same
 pub mod Answers
 pub mod Checked
 pub mod Again
+pub mod Letters
 pub mod Reading
 pub mod Examples

@@ -1,12 +1,12 @@
 -- Lists that are filled, from the front or in any order; a list by its entries; and what stands at an index. Assumes nothing.
-use Prim.Native.Nat.{ℕ, zero, suc, _+_, _-_, _≤_, _<_}
+use Prim.Native.Nat.{ℕ, zero, suc, _+_, _-_, _≤_, _<_, min}
 use mathlib.Core.Path.{_≡_, refl, sym, ap, _∙_}
 use mathlib.Core.Logic.{⊎-elim}
 use mathlib.Core.List.{List, [], _∷_, _++_, append-assoc}
 use native.Mathlib.Omega.{arith}
 use native.Mathlib.Numerals.{add-one}
 use lib.ListN.{length, getD, take, set, replicate, length-append, length-replicate, getD-replicate, List·getD-append}
-use lib.Seq.{set-append-seam, take-suc, take-length, getD-append-seam, getD-append-add, ext-getD}
+use lib.Seq.{set-append-seam, take-suc, take-all, take-length, getD-append-seam, getD-append-add, ext-getD}
 use Rattle.words.proofs.Cases.{less-or}
 use Rattle.pattern.specs.Lists.{tabulate, padded}
 
@@ -14,6 +14,13 @@ pub length-tabulate : (n : ℕ) (f : ℕ → ℕ) → length (tabulate n f) ≡ 
 unfolding tabulate
 length-tabulate zero f = refl
 length-tabulate (suc n) f = length-append (tabulate n f) (f n ∷ []) ∙ omega (arith, length-tabulate n f)
+
+-- Of a number past the end, all of the list is taken.
+pub take-least : (n : ℕ) (l : List ℕ) → take (min n (length l)) l ≡ take n l
+take-least n l = ⊎-elim
+    (λ (a : n < length l). let e : min n (length l) ≡ n = omega arith in rw e refl)
+    (λ (a : length l ≤ n). let e : min n (length l) ≡ length l = omega arith in rw e (take-length l ∙ sym (take-all n l a)))
+    (less-or n (length l))
 
 -- ---- Filled from the front
 

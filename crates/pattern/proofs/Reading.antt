@@ -9,6 +9,7 @@ use Rattle.words.proofs.Ranks.{length-order}
 use Rattle.pattern.specs.Lists.{tabulate, padded}
 use Rattle.pattern.specs.Prepared.{patternOf, unprepared, outcomeOf}
 use Rattle.pattern.specs.Check.{ownBytes, preparedAgain, IsPrepared}
+use Rattle.pattern.specs.Letters.{wordOf}
 use Rattle.pattern.specs.declared.Pattern.{Pattern}
 use Rattle.pattern.specs.declared.Outcome.{Outcome}
 use Rattle.pattern.specs.declared.Outcome.the-variants.{Ready, Refused}
@@ -19,15 +20,15 @@ use Rattle.pattern.proofs.Answers.{refused-answer, ready-answer, ready-
 pub record Fields (p : Pattern) : Type 0 where
   pub some : 1 ≤ p .len
   pub short : p .len ≤ 256
-  pub word : length (ownBytes p) ≡ p .len
-  pub noholes : p .noholes ≡ noholes (ownBytes p)
+  pub word : length (wordOf p) ≡ p .len
+  pub noholes : p .noholes ≡ noholes (wordOf p)
   pub length-bytes : length (p .bytes) ≡ 256
   pub length-order : length (p .order) ≡ 256
   pub length-shift : length (p .shift) ≡ 257
   pub length-next : length (p .next) ≡ 257
-  pub place-at : (i : ℕ) → i < p .len → getD (p .order) i 0 ≡ place (ownBytes p) i
-  pub shift-at : (i : ℕ) → i ≤ p .len → getD (p .shift) i 0 ≡ shift (ownBytes p) i
-  pub next-at : (i : ℕ) → i ≤ p .len → getD (p .next) i 0 ≡ next (ownBytes p) i
+  pub place-at : (i : ℕ) → i < p .len → getD (p .order) i 0 ≡ place (wordOf p) i
+  pub shift-at : (i : ℕ) → i ≤ p .len → getD (p .shift) i 0 ≡ shift (wordOf p) i
+  pub next-at : (i : ℕ) → i ≤ p .len → getD (p .next) i 0 ≡ next (wordOf p) i
 
 -- A prepared pattern is the pattern of its own bytes, which were not refused.
 prepared-is : (p : Pattern) → IsPrepared p → (outcomeOf (ownBytes p) 771 ≡ Ready) × (p ≡ patternOf (ownBytes p))
@@ -40,41 +41,34 @@ prepared-is p G = go (outcomeOf (ownBytes p) 771) refl
         let o : Refused why ≡ Ready = ap (λ (a : Prepared). a .outcome) (sym (refused-answer (ownBytes p) 771 e) ∙ G) in
         absurd (let z : _≡_ {A = ℕ} 0 1 = cc in omega arith)
 
+-- A table of m + 1 entries.
+by-rank : (w : List ℕ) (f : ℕ → ℕ) {l : List ℕ} → length w ≤ 256 → l ≡ padded 257 (tabulate (suc (length w)) f)
+    → (length l ≡ 257) × ((i : ℕ) → i ≤ length w → getD l i 0 ≡ f i)
+by-rank w f short e = (
+  ap length e ∙ length-padded 257 _ (omega (arith, length-tabulate (suc (length w)) f)),
+  λ i l. ap (λ (x : List ℕ). getD x i 0) e ∙ padded-tabulate-at 257 (suc (length w)) f i (omega arith),
+)
+
 pub fields-of : (p : Pattern) → IsPrepared p → Fields p
-fields-of p G = record {
-  some = omega (arith, len, sizes);
-  short = omega (arith, len, sizes);
-  word = sym len;
-  noholes = unfold patternOf in ap (λ (q : Pattern). q .noholes) is;
-  length-bytes = ap length bytes ∙ length-padded 256 (ownBytes p) (sizes .1);
-  length-order = ap length orders ∙ length-padded 256 (order (ownBytes p)) (omega (arith, length-order (ownBytes p), sizes));
-  length-shift = ap length shifts ∙ length-padded 257 _ (omega (arith, length-tabulate (suc (length (ownBytes p))) (shift (ownBytes p)), sizes));
-  length-next = ap length nexts ∙ length-padded 257 _ (omega (arith, length-tabulate (suc (length (ownBytes p))) (next (ownBytes p)), sizes));
-  place-at = λ i l. ap (λ (x : List ℕ). getD x i 0) orders ∙ padded-at 256 (order (ownBytes p)) i (omega (arith, length-order (ownBytes p), len)) ∙ place-is i;
-  shift-at = λ i l. ap (λ (x : List ℕ). getD x i 0) shifts ∙ padded-tabulate-at 257 (suc (length (ownBytes p))) (shift (ownBytes p)) i (omega (arith, len));
-  next-at = λ i l. ap (λ (x : List ℕ). getD x i 0) nexts ∙ padded-tabulate-at 257 (suc (length (ownBytes p))) (next (ownBytes p)) i (omega (arith, len));
-}
-  where
-    is : p ≡ patternOf (ownBytes p)
-    is = prepared-is p G .1
-
-    sizes : (1 ≤ length (ownBytes p)) × (length (ownBytes p) ≤ 256)
-    sizes = ready-sizes (ownBytes p) 771 (prepared-is p G .0)
-
-    len : p .len ≡ length (ownBytes p)
-    len = unfold patternOf in ap (λ (q : Pattern). q .len) is
-
-    bytes : p .bytes ≡ padded 256 (ownBytes p)
-    bytes = unfold patternOf in ap (λ (q : Pattern). q .bytes) is
-
-    orders : p .order ≡ padded 256 (order (ownBytes p))
-    orders = unfold patternOf in ap (λ (q : Pattern). q .order) is
-
-    shifts : p .shift ≡ padded 257 (tabulate (suc (length (ownBytes p))) (shift (ownBytes p)))
-    shifts = unfold patternOf in ap (λ (q : Pattern). q .shift) is
-
-    nexts : p .next ≡ padded 257 (tabulate (suc (length (ownBytes p))) (next (ownBytes p)))
-    nexts = unfold patternOf in ap (λ (q : Pattern). q .next) is
-
-    place-is : (i : ℕ) → getD (order (ownBytes p)) i 0 ≡ place (ownBytes p) i
-    place-is i = unfold place in refl
+unfolding wordOf patternOf place
+fields-of p G =
+    let w = ownBytes p in
+    let is = prepared-is p G .1 in
+    let sizes = ready-sizes w 771 (prepared-is p G .0) in
+    let len : p .len ≡ length w = ap (λ (q : Pattern). q .len) is in
+    let orders : p .order ≡ padded 256 (order w) = ap (λ (q : Pattern). q .order) is in
+    let shifts = by-rank w (shift w) (sizes .1) (ap (λ (q : Pattern). q .shift) is) in
+    let nexts = by-rank w (next w) (sizes .1) (ap (λ (q : Pattern). q .next) is) in
+    record {
+      some = omega arith;
+      short = omega arith;
+      word = sym len;
+      noholes = ap (λ (q : Pattern). q .noholes) is;
+      length-bytes = ap (λ (q : Pattern). length (q .bytes)) is ∙ length-padded 256 w (sizes .1);
+      length-order = ap length orders ∙ length-padded 256 (order w) (omega (arith, length-order w));
+      length-shift = shifts .0;
+      length-next = nexts .0;
+      place-at = λ i l. ap (λ (x : List ℕ). getD x i 0) orders ∙ padded-at 256 (order w) i (omega (arith, length-order w));
+      shift-at = λ i l. shifts .1 i (omega arith);
+      next-at = λ i l. nexts .1 i (omega arith);
+    }

@@ -11,7 +11,7 @@ ghost use Prim.Native.Nat.{_≤_};
 ghost use lib.ListN.{length};
 ghost use Rattle.pattern.specs.Lists.{padded};
 ghost use Rattle.pattern.specs.Prepared.{patternOf};
-ghost use Rattle.pattern.specs.Internal.Scratch.{Sizes, Tables, RestKept};
+ghost use Rattle.pattern.specs.Internal.Scratch.{Sizes, HasTables, RestKept};
 
 pub fn copied(bytes: &[u8]) -> [u8; 256]
     requires { ⌜ length (now bytes) ≤ 256 ⌝ }
@@ -28,7 +28,7 @@ pub fn copied(bytes: &[u8]) -> [u8; 256]
 
 pub fn read_off(bytes: &[u8], scratch: &[u16]) -> Pattern
     requires { ⌜ Sizes (now bytes) (now scratch) ⌝ }
-    requires { ⌜ Tables (now bytes) (now scratch) ⌝ }
+    requires { ⌜ HasTables (now bytes) (now scratch) ⌝ }
     ensures { λ r. ⌜ r ≡ patternOf (now (bytes .entry)) ⌝ }
 {
     let mut order = [0u8; 256];

@@ -1,89 +1,77 @@
 // The test behind refusal 4: a pattern's own bytes are prepared again, and every field is compared.
 use super::Pattern;
-use super::build::build;
+use super::Prepared;
+use super::prepare;
 ghost use mathlib.Core.Path.{_≡_};
-ghost use Prim.Native.Nat.{_≤_};
+ghost use Prim.Native.Nat.{min};
 ghost use lib.ListN.{length, take};
-ghost use Rattle.pattern.specs.Prepared.{patternOf};
+ghost use Rattle.pattern.specs.Prepared.{prepared};
 ghost use Rattle.pattern.specs.Check.{sameList, samePattern};
 
-pub fn same_bytes(a: &[u8], b: &[u8]) -> bool
+// The lesser of two numbers.
+fn least(a: usize, b: usize) -> usize
+    ensures { λ r. ⌜ r ≡ min a b ⌝ }
+{
+    if a < b { a } else { b }
+}
+
+// What preparation answers to the first len bytes, in a scratch of its own.
+pub fn prepared_again(bytes: &[u8], len: usize) -> Prepared
+    ensures { λ r. ⌜ r ≡ prepared (take len (now (bytes .entry))) 771 ⌝ }
+{
+    let mut scratch = [0u16; 771];
+    let taken = least(len, bytes.len());
+    prepare(&bytes[..taken], &mut scratch)
+}
+
+// Whether two lists are the same. The loop runs on past a difference, so that many entries are compared at once.
+fn same_bytes(a: &[u8], b: &[u8]) -> bool
     ensures { λ r. ⌜ r ≡ sameList (now (a .entry)) (now (b .entry)) ⌝ }
 {
     if a.len() != b.len() {
         return false;
     }
+    let mut same = true;
     let mut i: usize = 0;
     while i < a.len() {
-        if a[i] != b[i] {
-            return false;
-        }
+        same = same & (a[i] == b[i]);
         i += 1;
     }
-    true
+    same
 }
 
-pub fn same_entries(a: &[u16], b: &[u16]) -> bool
+// The same of wider entries.
+fn same_entries(a: &[u16], b: &[u16]) -> bool
     ensures { λ r. ⌜ r ≡ sameList (now (a .entry)) (now (b .entry)) ⌝ }
 {
     if a.len() != b.len() {
         return false;
     }
+    let mut same = true;
     let mut i: usize = 0;
     while i < a.len() {
-        if a[i] != b[i] {
-            return false;
-        }
+        same = same & (a[i] == b[i]);
         i += 1;
     }
-    true
+    same
 }
 
-pub fn same_words(a: &[u64], b: &[u64]) -> bool
+// The same of four words.
+fn same_marks(a: &[u64; 4], b: &[u64; 4]) -> bool
+    requires { ⌜ (length (now a) ≡ 4) × (length (now b) ≡ 4) ⌝ }
     ensures { λ r. ⌜ r ≡ sameList (now (a .entry)) (now (b .entry)) ⌝ }
 {
-    if a.len() != b.len() {
-        return false;
-    }
-    let mut i: usize = 0;
-    while i < a.len() {
-        if a[i] != b[i] {
-            return false;
-        }
-        i += 1;
-    }
-    true
+    (a[0] == b[0]) & (a[1] == b[1]) & (a[2] == b[2]) & (a[3] == b[3])
 }
 
+// Whether no field differs. The answers are joined in the order of samePattern.
 pub fn same_pattern(a: Pattern, b: Pattern) -> bool
     ensures { λ r. ⌜ r ≡ samePattern a b ⌝ }
 {
-    if a.len != b.len {
-        return false;
-    }
-    if a.noholes != b.noholes {
-        return false;
-    }
-    if !same_bytes(&a.bytes, &b.bytes) {
-        return false;
-    }
-    if !same_bytes(&a.order, &b.order) {
-        return false;
-    }
-    if !same_entries(&a.shift, &b.shift) {
-        return false;
-    }
-    if !same_entries(&a.next, &b.next) {
-        return false;
-    }
-    same_words(&a.marks, &b.marks)
-}
-
-// The pattern of the first len bytes, prepared in a scratch of its own.
-pub fn prepared_again(bytes: &[u8], len: usize) -> Pattern
-    requires { ⌜ (1 ≤ len) × (len ≤ 256) × (len ≤ length (now bytes)) ⌝ }
-    ensures { λ r. ⌜ r ≡ patternOf (take len (now (bytes .entry))) ⌝ }
-{
-    let mut scratch = [0u16; 771];
-    build(&bytes[..len], &mut scratch)
+    let marks = same_marks(&a.marks, &b.marks);
+    let bytes = same_bytes(&a.bytes, &b.bytes);
+    let order = same_bytes(&a.order, &b.order);
+    let shift = same_entries(&a.shift, &b.shift);
+    let next = same_entries(&a.next, &b.next);
+    (a.len == b.len) & ((a.noholes == b.noholes) & (bytes & (order & (shift & (next & marks)))))
 }

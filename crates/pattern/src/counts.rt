@@ -4,12 +4,11 @@ ghost use Prim.Native.Nat.{_+_};
 ghost use lib.ListN.{length};
 ghost use Rattle.pattern.specs.Internal.Scratch.{Sizes, HasHmax, HasKmin, FillsBelow};
 
-// The running counts; answers the number of all noholes.
-pub fn fill_below(bytes: &[u8], scratch: &mut [u16]) -> usize
+pub fn fill_below(bytes: &[u8], scratch: &mut [u16])
     requires { ⌜ Sizes (now bytes) (now scratch) ⌝ }
     requires { ⌜ HasHmax (now bytes) (now scratch) (length (now bytes) + 1) ⌝ }
     requires { ⌜ HasKmin (now bytes) (now scratch) ⌝ }
-    ensures { λ r. ⌜ FillsBelow (now (bytes .entry)) (now (scratch .entry)) (now (scratch .exit)) r ⌝ }
+    ensures { λ r. ⌜ FillsBelow (now (bytes .entry)) (now (scratch .entry)) (now (scratch .exit)) ⌝ }
 {
     let m = bytes.len();
     let mut p: usize = 0;
@@ -23,5 +22,4 @@ pub fn fill_below(bytes: &[u8], scratch: &mut [u16]) -> usize
         }
     }
     scratch[514 + m] = count as u16;
-    count
 }

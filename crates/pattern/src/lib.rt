@@ -91,13 +91,11 @@ pub fn is_prepared(pattern: Pattern) -> bool
     ensures test { λ r. ⌜ r ≡ isPrepared pattern ⌝ }
     ensures meaning { λ r. ⌜ ((r ≡ true) ↔ IsPrepared pattern) ⌝ }
 {
-    let len = pattern.len;
-    if len == 0 {
-        return false;
+    let again = check::prepared_again(&pattern.bytes, pattern.len);
+    let outcome = again.outcome;
+    let own = again.pattern;
+    match outcome {
+        Outcome::Ready => check::same_pattern(pattern, own),
+        Outcome::Refused(_why) => false,
     }
-    if 256 < len {
-        return false;
-    }
-    let own = check::prepared_again(&pattern.bytes, len);
-    check::same_pattern(pattern, own)
 }

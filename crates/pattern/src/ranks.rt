@@ -5,13 +5,13 @@ ghost use mathlib.Core.Bool.{cond};
 ghost use Prim.Native.Nat.{_-_, _<_};
 ghost use lib.ListN.{length};
 ghost use Rattle.words.specs.Tables.{rmin};
-ghost use Rattle.pattern.specs.Internal.Scratch.{Sizes, Tables};
+ghost use Rattle.pattern.specs.Internal.Scratch.{Sizes, HasTables};
 ghost use Rattle.pattern.specs.Internal.Ranked.{Ranked, RankedAll};
 
 // rmin(p - 1) from rmin(p): it is p where p is a period. At place 0 it stays.
 pub fn period_from(bytes: &[u8], scratch: &[u16], p: usize, above: usize) -> usize
     requires { ⌜ Sizes (now bytes) (now scratch) ⌝ }
-    requires { ⌜ Tables (now bytes) (now scratch) ⌝ }
+    requires { ⌜ HasTables (now bytes) (now scratch) ⌝ }
     requires { ⌜ (p < length (now bytes)) × (above ≡ rmin (now bytes) p) ⌝ }
     ensures { λ r. ⌜ r ≡ rmin (now (bytes .entry)) (p - 1) ⌝ }
 {
@@ -40,7 +40,7 @@ pub fn rank_places(
     next: &mut [u16; 257],
 )
     requires { ⌜ Sizes (now bytes) (now scratch) ⌝ }
-    requires { ⌜ Tables (now bytes) (now scratch) ⌝ }
+    requires { ⌜ HasTables (now bytes) (now scratch) ⌝ }
     requires { ⌜ Ranked (now bytes) (now order) (now shift) (now next) (length (now bytes)) ⌝ }
     ensures { λ r. ⌜ RankedAll (now (bytes .entry)) (now (order .exit)) (now (shift .exit)) (now (next .exit)) ⌝ }
 {

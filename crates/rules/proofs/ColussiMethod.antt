@@ -1,6 +1,6 @@
 -- The search in Colussi's order lists exactly the occurrences, under its ceiling. Assumes nothing.
 use Prim.Native.Nat.{ℕ, suc, _+_, _-_, _*_, _≤_, _<_}
-use mathlib.Core.Path.{_≡_, ap, _∙_}
+use mathlib.Core.Path.{_≡_, refl, ap, _∙_}
 use mathlib.Core.Logic.{⊎-elim}
 use mathlib.Core.List.{List}
 use native.Mathlib.Omega.{arith}
@@ -12,11 +12,11 @@ use Rattle.words.proofs.Shifts.{shift-nohole, shift-hole, shift-last, noholes-l
 use Rattle.rules.specs.Rules.{edge-after}
 use Rattle.rules.specs.Occurs.{Occurs}
 use Rattle.rules.specs.Colussi.{colussi-plan, colussi}
-use Rattle.rules.specs.Promise.{Lists, CutOff, Ceiling}
+use Rattle.rules.specs.Promise.{Ceiling}
 use Rattle.rules.specs.declared.Ending.{Ending}
 use Rattle.rules.specs.declared.Ending.the-variants.{Done, Spent, Full}
 use Rattle.rules.proofs.Rules.{edge-kept, edge-moved}
-use Rattle.rules.proofs.Method.{Left, Method, Found, Bound, Kept-at-end, kept}
+use Rattle.rules.proofs.Method.{Left, Method, Bound, Kept-at-end, kept, Finds, finds}
 use Rattle.rules.proofs.Occurs.{None}
 use Rattle.rules.proofs.Excluded.{none-before-period}
 use Rattle.rules.proofs.Known.{Known, begins, known-occurs, known-matched, none-nohole, known-nohole, above-agree, none-hole, known-after}
@@ -34,9 +34,8 @@ module _ (w t : List ℕ) (some : 1 ≤ length w) where
   under b i e c H = omega (arith, paid w b i e c (H .account), H .known .high)
 
   -- Leaving with rank r, by what its shift, its next rank and the edge then are.
-  left-with : (first b r e c s j e' : ℕ) → shift w r ≡ s → next w r ≡ j → edge-after (colussi-plan w) w t r b e ≡ e'
+  left-with : (first b r e c s j e' : ℕ) → shift w r ≡ s → next w r ≡ j → edge-after (colussi-plan w) r b e ≡ e'
       → Holds (b + s) j e' c → None w t first (b + s) → Left (colussi-plan w) w t Holds first b r e c
-  unfolding colussi-plan
   left-with first b r e c s j e' S J E H N = record { holds = rw (S, J, E) H; none = rw S N }
 
   module _ (b i e c : ℕ) (H : Holds b i e c) where
@@ -44,7 +43,7 @@ module _ (w t : List ℕ) (some : 1 ≤ length w) where
     after-listed O = left-with (suc b) b (length w) e c (rmin w 0) (below w (length w - rmin w 0)) (b + length w)
         (shift-last w)
         (next-hole w (length w) (noholes-le w) ∙ ap (λ s. below w (length w - s)) (shift-last w))
-        (edge-moved (colussi-plan w) w t (length w) b e (unfold colussi-plan in noholes-le w))
+        (edge-moved (colussi-plan w) (length w) b e (noholes-le w))
         record {
           known = known-after w t b 0 some (λ p l g. O .same p l);
           account = paid-after w b 0 c some (under b i e c H);
@@ -59,7 +58,7 @@ module _ (w t : List ℕ) (some : 1 ≤ length w) where
           left-with b b i e (suc c) (kmin w (place w i)) (below w (place w i - kmin w (place w i))) e
           (shift-nohole w i early)
           (next-nohole w i early)
-          (edge-kept (colussi-plan w) w t i b e (unfold colussi-plan in early))
+          (edge-kept (colussi-plan w) i b e early)
           record {
             known = known-nohole w t b i e (H .known) rank beyond differ early;
             account = paid-missed w b i e c (place w i) (N .inside) (N .is) (N .index) beyond (H .account);
@@ -70,7 +69,7 @@ module _ (w t : List ℕ) (some : 1 ≤ length w) where
           left-with b b i e (suc c) (rmin w (place w i)) (below w (length w - rmin w (place w i))) (b + length w)
           (shift-hole w i late rank)
           (next-hole w i late ∙ ap (λ s. below w (length w - s)) (shift-hole w i late rank))
-          (edge-moved (colussi-plan w) w t i b e (unfold colussi-plan in late))
+          (edge-moved (colussi-plan w) i b e late)
           record {
             known = known-after w t b (place w i) (R .inside) (above-agree w t b i e (H .known) rank beyond differ late);
             account = paid-after w b (place w i) (suc c) (R .inside) (paid-due w b i e c (H .account) rank beyond);
@@ -79,8 +78,8 @@ module _ (w t : List ℕ) (some : 1 ≤ length w) where
           (less-or i (noholes w))
 
   pub method : Method (colussi-plan w) w t Holds Under
-  unfolding colussi-plan
   method = record {
+    letters = refl;
     some = some;
     moving = λ i l. shift-moves w i some l .on;
     begins = record { known = begins w t; account = begins-paid w };
@@ -97,27 +96,18 @@ module _ (w t : List ℕ) (some : 1 ≤ length w) where
 
   -- ---- The promises
 
-  module _ (cap size : ℕ) where
-    at-end : Kept-at-end (colussi-plan w) w t Holds Under method cap size (colussi w t cap size .ending) (colussi w t cap size .last)
-    unfolding colussi
-    at-end = kept (colussi-plan w) w t Holds Under method cap size
+  -- Demand 2.
+  pub colussi-finds : (cap size : ℕ) → Finds colussi w t cap size
+  colussi-finds cap size = finds (colussi-plan w) w t Holds Under method colussi (λ cap size. unfold colussi in refl) cap size
 
-    -- Demand 2.
-    pub colussi-found : Found (colussi-plan w) w t Holds Under method cap size (colussi w t cap size .ending) (colussi w t cap size .last .found)
-    colussi-found = at-end .found
-
-    pub colussi-lists : Lists w t (colussi w t cap size .ending) (colussi w t cap size .last .found)
-    colussi-lists = at-end .lists
-
-    pub colussi-cut-off :
-        CutOff w t cap size (colussi w t cap size .ending) (length (colussi w t cap size .last .made)) (length (colussi w t cap size .last .found))
-    colussi-cut-off = at-end .cut-off
-
-    -- Demand 3.
-    pub colussi-ceiling : Ceiling (length w) (length t) (colussi w t cap size .ending) (length (colussi w t cap size .last .made))
-    colussi-ceiling = at (colussi w t cap size .ending) (length (colussi w t cap size .last .made)) (at-end .bound)
-      where
-        at : (e : Ending) (c : ℕ) → Bound (colussi-plan w) w t Holds Under method cap size e c → Ceiling (length w) (length t) e c
-        at Done c B = (λ l. let u = B .window l in omega (arith, u .1, u .2), B .idle)
-        at (Spent b) c B = B
-        at (Full b) c B = B
+  -- Demand 3.
+  pub colussi-ceiling : (cap size : ℕ)
+      → Ceiling (length w) (length t) (colussi w t cap size .ending) (length (colussi w t cap size .last .made))
+  unfolding colussi
+  colussi-ceiling cap size =
+      at (colussi w t cap size .ending) (length (colussi w t cap size .last .made)) (kept (colussi-plan w) w t Holds Under method cap size .bound)
+    where
+      at : (e : Ending) (c : ℕ) → Bound w t Under e c → Ceiling (length w) (length t) e c
+      at Done c B = (λ l. let u = B .window l in omega (arith, u .1, u .2), B .idle)
+      at (Spent b) c B = B
+      at (Full b) c B = B

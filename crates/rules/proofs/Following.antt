@@ -1,114 +1,134 @@
 -- A loop that follows a search by the rules, and fills the list that was lent. Assumes nothing.
-use Prim.Native.Nat.{ℕ, _+_, _≤_, _<_}
+use Prim.Native.Nat.{ℕ, suc, _+_, _≤_, _<_}
 use mathlib.Core.Path.{_≡_, refl, sym, ap, _∙_}
-use mathlib.Core.List.{List, []}
+use mathlib.Core.Bool.{true, false}
+use mathlib.Core.List.{List, [], _∷_, _++_}
 use native.Mathlib.Omega.{arith}
 use native.Mathlib.Numerals.{add-one}
 use lib.ListN.{length, take, drop, set, length-set, take-append-drop}
 use lib.Seq.{take-suc-set, drop-set-lt, length-take-le, drop-drop}
-use Rattle.rules.specs.Rules.{Plan, Compared, stop, edge-after, leave, listed, turn, rest, search}
+use Rattle.rules.specs.Rules.{Plan, Source, Compared, stop, edge-after, leave, listed, turn, search}
 use Rattle.rules.specs.Report.{reportOf, filled, Reported}
-use Rattle.rules.specs.Internal.Passing.{Established, Due, at, Passes}
+use Rattle.rules.specs.Internal.Passing.{Established, Due, at, one, Visits, Passes}
 use Rattle.rules.specs.declared.Ending.{Ending}
 use Rattle.rules.specs.declared.Ending.the-variants.{Done, Spent, Full}
 use Rattle.rules.specs.declared.Report.{Report}
 use Rattle.rules.proofs.Rules.{Moving, turn-done, turn-full, turn-listed, turn-spent, rest-goes-on, rest-ends}
+use Rattle.rules.proofs.Passing.{passes-matched, passes-missed}
 
--- A plan whose shifts and next ranks are at most m.
-pub record Ranges (plan : Plan) (w : List ℕ) : Type 0 where
-  pub some : 1 ≤ length w
-  pub moving : Moving plan w
-  pub shifts : (i : ℕ) → i ≤ length w → plan .shift i ≤ length w
-  pub nexts : (i : ℕ) → i ≤ length w → plan .next i ≤ length w
+-- A plan whose shifts move the window on, and whose shifts and next ranks are at most m.
+pub record Ranges (plan : Plan) : Type 0 where
+  pub some : 1 ≤ plan .m
+  pub moving : Moving plan
+  pub shifts : (i : ℕ) → i ≤ plan .m → plan .shift i ≤ plan .m
+  pub nexts : (i : ℕ) → i ≤ plan .m → plan .next i ≤ plan .m
 
-module _ (plan : Plan) (w t : List ℕ) (cap : ℕ) (before : List ℕ) where
-  -- The loop's variables are those of a state from which the search ends as it does from its start; its positions are the first k entries.
-  pub record Follows (after : List ℕ) (b i e c k : ℕ) : Type 0 where
-    pub made : List Compared
-    pub count : length made ≡ c
-    pub same : rest plan w t cap (length before) (at b i e made (take k after)) ≡ search plan w t cap (length before)
+-- ---- The search alone
+
+module _ (plan : Plan) (source : Source) (cap size : ℕ) where
+  -- The loop's variables are those of a state by which the search goes.
+  pub record Stands (b i e : ℕ) (made : List Compared) (found : List ℕ) : Type 0 where
+    pub visits : Visits plan source cap size (at b i e made found)
+    pub rank : i ≤ plan .m
+    pub capped : length made ≤ cap
+    pub window : b ≤ source .n
+
+  pub stands-start : Stands 0 0 0 [] []
+  stands-start = record { visits = unfold search in refl; rank = omega arith; capped = omega arith; window = omega arith }
+
+  module _ (R : Ranges plan) {b i e : ℕ} {made : List Compared} {found : List ℕ} (S : Stands b i e made found) where
+    pub stands-on : {b' i' e' : ℕ} {made' : List Compared} → Passes plan source cap b i e made b' i' e' made'
+        → b' ≤ source .n → i' ≤ plan .m → length made' ≤ cap → Stands b' i' e' made' found
+    stands-on P window rank capped = record { visits = sym (P .same size found) ∙ S .visits; rank = rank; capped = capped; window = window }
+
+    -- The search stops here.
+    stands-stop : (x : Ending) → turn plan source cap size (at b i e made found) ≡ stop x
+        → search plan source cap size ≡ record { ending = x; last = at b i e made found }
+    stands-stop x q = sym (S .visits) ∙ rest-ends plan source (R .moving) cap size (at b i e made found) x q
+
+    pub stands-done : source .n < b + plan .m → search plan source cap size ≡ record { ending = Done; last = at b i e made found }
+    stands-done l = stands-stop Done (turn-done plan source cap size (at b i e made found) l)
+
+    module _ (fits : b + plan .m ≤ source .n) where
+      module _ (due : Due plan b i e) where
+        pub stands-spent : length made ≡ cap → search plan source cap size ≡ record { ending = Spent b; last = at b i e made found }
+        stands-spent l = stands-stop (Spent b) (turn-spent plan source cap size (at b i e made found) fits due l)
+
+        module _ (more : length made ≡ cap → ⊥) where
+          pub stands-matched : source .agree b (plan .place i) (length made) ≡ true → Stands b (suc i) e (one plan b i true ∷ made) found
+          stands-matched q = stands-on (passes-matched plan source cap (R .moving) b i e made fits due more q)
+              (omega arith) (due .rank) (omega (arith, S .capped))
+
+          pub stands-missed : source .agree b (plan .place i) (length made) ≡ false
+              → Stands (b + plan .shift i) (plan .next i) (edge-after plan i b e) (one plan b i false ∷ made) found
+          stands-missed q = stands-on (passes-missed plan source cap (R .moving) b i e made fits due more q)
+              (omega (arith, R .shifts i (S .rank))) (R .nexts i (S .rank)) (omega (arith, S .capped))
+
+      module _ (established : Established plan b i e) where
+        pub stands-full : size ≤ length found → search plan source cap size ≡ record { ending = Full b; last = at b i e made found }
+        stands-full l = stands-stop (Full b) (turn-full plan source cap size (at b i e made found) fits established l)
+
+        pub stands-listed : length found < size
+            → Stands (b + plan .shift (plan .m)) (plan .next (plan .m)) (edge-after plan (plan .m) b e) made (found ++ (b ∷ []))
+        unfolding listed leave
+        stands-listed l = record {
+          visits = sym (rest-goes-on plan source (R .moving) cap size (at b i e made found) _
+              (turn-listed plan source cap size (at b i e made found) fits established l)) ∙ S .visits;
+          rank = R .nexts (plan .m) (omega arith);
+          capped = S .capped;
+          window = omega (arith, R .shifts (plan .m) (omega arith));
+        }
+
+-- ---- With the list
+
+module _ (plan : Plan) (source : Source) (cap : ℕ) (before : List ℕ) where
+  -- The positions found are the first k entries of the list, and the others are as they were lent.
+  pub record Follows (after : List ℕ) (b i e : ℕ) (made : List Compared) (k : ℕ) : Type 0 where
+    pub stands : Stands plan source cap (length before) b i e made (take k after)
     pub room : k ≤ length after
     pub size : length after ≡ length before
     pub tail : drop k after ≡ drop k before
-    pub rank : i ≤ length w
-    pub capped : c ≤ cap
-    pub window : b ≤ length t
 
-  pub follows-start : Follows before 0 0 0 0 0
-  follows-start = record {
-    made = [];
-    count = refl;
-    same = unfold search in refl;
-    room = omega arith;
-    size = refl;
-    tail = refl;
-    rank = omega arith;
-    capped = omega arith;
-    window = omega arith;
-  }
+  pub follows-start : Follows before 0 0 0 [] 0
+  follows-start = record { stands = stands-start plan source cap (length before); room = omega arith; size = refl; tail = refl }
 
-  module _ (R : Ranges plan w) (after : List ℕ) (b i e c k : ℕ) (F : Follows after b i e c k) where
-    pub follows-on : {b' i' e' c' : ℕ} → Passes plan w t cap b i e c b' i' e' c' → b' ≤ length t → i' ≤ length w → c' ≤ cap
-        → Follows after b' i' e' c' k
-    follows-on P window rank capped =
-        let p = P .same (length before) (F .made) (take k after) (F .count) in
-        record {
-          made = p .0;
-          count = p .1;
-          same = sym (p .2) ∙ F .same;
-          room = F .room;
-          size = F .size;
-          tail = F .tail;
-          rank = rank;
-          capped = capped;
-          window = window;
-        }
+  module _ (R : Ranges plan) {after : List ℕ} {b i e : ℕ} {made : List Compared} {k : ℕ} (F : Follows after b i e made k) where
+    -- Turns that list nothing.
+    pub follows-on : {b' i' e' : ℕ} {made' : List Compared} → Stands plan source cap (length before) b' i' e' made' (take k after)
+        → Follows after b' i' e' made' k
+    follows-on S = record { stands = S; room = F .room; size = F .size; tail = F .tail }
 
     found : length (take k after) ≡ k
     found = length-take-le k after (F .room)
 
     -- The search stops here.
-    reports : (x : Ending) → turn plan w t cap (length before) (at b i e (F .made) (take k after)) ≡ stop x
-        → Reported (search plan w t cap (length before)) before after record { ending = x; count = c; written = k }
+    reports : (x : Ending) → search plan source cap (length before) ≡ record { ending = x; last = at b i e made (take k after) }
+        → Reported (search plan source cap (length before)) before after record { ending = x; count = length made; written = k }
     unfolding reportOf filled
-    reports x q =
-        let s : search plan w t cap (length before) ≡ record { ending = x; last = at b i e (F .made) (take k after) } =
-        sym (F .same) ∙ rest-ends plan w t (R .moving) cap (length before) (at b i e (F .made) (take k after)) x q in
-        record {
-          report = rw (s, F .count, found) refl;
-          list = rw (s, found, ← F .tail) (sym (take-append-drop k after));
-        }
+    reports x s = record { report = rw (s, found) refl; list = rw (s, found, ← F .tail) (sym (take-append-drop k after)) }
 
-    pub reports-done : length t < b + length w → Reported (search plan w t cap (length before)) before after record { ending = Done; count = c; written = k }
-    reports-done l = reports Done (turn-done plan w t cap (length before) (at b i e (F .made) (take k after)) l)
+    pub reports-done : source .n < b + plan .m
+        → Reported (search plan source cap (length before)) before after record { ending = Done; count = length made; written = k }
+    reports-done l = reports Done (stands-done plan source cap (length before) R (F .stands) l)
 
-    module _ (fits : b + length w ≤ length t) where
-      pub reports-spent : Due plan w b i e → c ≡ cap
-          → Reported (search plan w t cap (length before)) before after record { ending = Spent b; count = c; written = k }
-      reports-spent d l = reports (Spent b) (turn-spent plan w t cap (length before) (at b i e (F .made) (take k after)) fits d (F .count ∙ l))
+    module _ (fits : b + plan .m ≤ source .n) where
+      pub reports-spent : Due plan b i e → length made ≡ cap
+          → Reported (search plan source cap (length before)) before after record { ending = Spent b; count = length made; written = k }
+      reports-spent d l = reports (Spent b) (stands-spent plan source cap (length before) R (F .stands) fits d l)
 
-      module _ (established : Established plan w b i e) where
+      module _ (established : Established plan b i e) where
         pub reports-full : k ≡ length after
-            → Reported (search plan w t cap (length before)) before after record { ending = Full b; count = c; written = k }
-        reports-full l =
-            reports (Full b) (turn-full plan w t cap (length before) (at b i e (F .made) (take k after)) fits established (omega (arith, found, F .size)))
+            → Reported (search plan source cap (length before)) before after record { ending = Full b; count = length made; written = k }
+        reports-full l = reports (Full b) (stands-full plan source cap (length before) R (F .stands) fits established (omega (arith, found, F .size)))
 
         pub follows-listed : (k ≡ length after → ⊥)
-            → Follows (set after k b) (b + plan .shift (length w)) (plan .next (length w)) (edge-after plan w t (length w) b e) c (k + 1)
-        unfolding listed leave
+            → Follows (set after k b) (b + plan .shift (plan .m)) (plan .next (plan .m)) (edge-after plan (plan .m) b e) made (k + 1)
         follows-listed l =
             let g : k < length after = omega (arith, F .room) in
             record {
-              made = F .made;
-              count = F .count;
-              same = rw (add-one k, take-suc-set after k b g)
-                  (sym (rest-goes-on plan w t (R .moving) cap (length before) (at b i e (F .made) (take k after)) _
-                  (turn-listed plan w t cap (length before) (at b i e (F .made) (take k after)) fits established (omega (arith, found, F .size))))
-                  ∙ F .same);
+              stands = rw (add-one k, take-suc-set after k b g)
+                  (stands-listed plan source cap (length before) R (F .stands) fits established (omega (arith, found, F .size)));
               room = rw (length-set after k b) (omega arith);
               size = length-set after k b ∙ F .size;
               tail = drop-set-lt (k + 1) after k b (omega arith) ∙ sym (drop-drop 1 k after) ∙ ap (drop 1) (F .tail) ∙ drop-drop 1 k before;
-              rank = R .nexts (length w) (omega arith);
-              capped = F .capped;
-              window = omega (arith, R .shifts (length w) (omega arith));
             }

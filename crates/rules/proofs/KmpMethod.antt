@@ -15,12 +15,12 @@ use Rattle.words.proofs.Shifts.{Moves}
 use Rattle.rules.specs.Rules.{edge-after}
 use Rattle.rules.specs.Occurs.{Occurs}
 use Rattle.rules.specs.Kmp.{kmp-shift, kmp-plan, kmp}
-use Rattle.rules.specs.Promise.{Lists, CutOff, KmpCeiling}
+use Rattle.rules.specs.Promise.{KmpCeiling}
 use Rattle.rules.specs.Internal.Passing.{Established}
 use Rattle.rules.specs.declared.Ending.{Ending}
 use Rattle.rules.specs.declared.Ending.the-variants.{Done, Spent, Full}
 use Rattle.rules.proofs.Rules.{edge-kept}
-use Rattle.rules.proofs.Method.{Left, Method, Found, Bound, Kept-at-end, kept}
+use Rattle.rules.proofs.Method.{Left, Method, Bound, Kept-at-end, kept, Finds, finds}
 use Rattle.rules.proofs.Occurs.{None}
 use Rattle.rules.proofs.Excluded.{Same, none-before, none-before-period}
 
@@ -75,9 +75,8 @@ module _ (w : List ℕ) where
       (less-or i (length w))
 
 -- The known edge never moves.
-pub edge-stays : (w t : List ℕ) (i b e : ℕ) → i ≤ length w → edge-after (kmp-plan w) w t i b e ≡ e
-unfolding kmp-plan
-edge-stays w t i b e l = edge-kept (kmp-plan w) w t i b e (omega arith)
+pub edge-stays : (w : List ℕ) (i b e : ℕ) → i ≤ length w → edge-after (kmp-plan w) i b e ≡ e
+edge-stays w i b e l = edge-kept (kmp-plan w) i b e (omega arith)
 
 -- ---- The method
 
@@ -98,13 +97,12 @@ module _ (w t : List ℕ) (some : 1 ≤ length w) where
   -- The shift is a period of the letters before i: those that it leaves agree in the next window too.
   left-with : (first b i e c c' : ℕ) → Holds b i e c → c' ≤ suc c → Periodic (letter w) (kmp-shift w i) i
       → None w t first (b + kmp-shift w i) → Left (kmp-plan w) w t Holds first b i e c'
-  unfolding kmp-plan
   left-with first b i e c c' H l P N =
       let s : ℕ = kmp-shift w i in
       record {
         holds = record {
           rank = omega (arith, H .rank);
-          edge = edge-stays w t i b e (H .rank) ∙ H .edge;
+          edge = edge-stays w i b e (H .rank) ∙ H .edge;
           agree = λ p g. sym (P p (p + s) refl (omega arith)) ∙ H .agree (p + s) (omega arith) ∙ ap (letter t) (omega arith);
           account = omega (arith, H .account, kmp-shift-moves w i some (H .rank) .on);
         };
@@ -112,8 +110,7 @@ module _ (w t : List ℕ) (some : 1 ≤ length w) where
       }
 
   module _ (b i e c : ℕ) (H : Holds b i e c) where
-    established-occurs : b + length w ≤ length t → Established (kmp-plan w) w b i e → Occurs w t b
-    unfolding kmp-plan
+    established-occurs : b + length w ≤ length t → Established (kmp-plan w) b i e → Occurs w t b
     established-occurs fits (inl l) = record { inside = fits; same = λ p g. H .agree p (omega arith) }
     established-occurs fits (inr l) = absurd (omega (arith, H .edge))
 
@@ -140,8 +137,8 @@ module _ (w t : List ℕ) (some : 1 ≤ length w) where
           (none-before w t b i rank (λ p l z. H .agree p l) differ (kmp-shift w i) (S .least))
 
   pub method : Method (kmp-plan w) w t Holds Under
-  unfolding kmp-plan
   method = record {
+    letters = refl;
     some = some;
     moving = λ i l. kmp-shift-moves w i some l .on;
     begins = record { rank = omega arith; edge = refl; agree = λ p l. absurd (omega arith); account = omega arith };
@@ -155,27 +152,17 @@ module _ (w t : List ℕ) (some : 1 ≤ length w) where
 
   -- ---- The promises
 
-  module _ (cap size : ℕ) where
-    at-end : Kept-at-end (kmp-plan w) w t Holds Under method cap size (kmp w t cap size .ending) (kmp w t cap size .last)
-    unfolding kmp
-    at-end = kept (kmp-plan w) w t Holds Under method cap size
+  -- Demand 2.
+  pub kmp-finds : (cap size : ℕ) → Finds kmp w t cap size
+  kmp-finds cap size = finds (kmp-plan w) w t Holds Under method kmp (λ cap size. unfold kmp in refl) cap size
 
-    -- Demand 2.
-    pub kmp-found : Found (kmp-plan w) w t Holds Under method cap size (kmp w t cap size .ending) (kmp w t cap size .last .found)
-    kmp-found = at-end .found
-
-    pub kmp-lists : Lists w t (kmp w t cap size .ending) (kmp w t cap size .last .found)
-    kmp-lists = at-end .lists
-
-    pub kmp-cut-off :
-        CutOff w t cap size (kmp w t cap size .ending) (length (kmp w t cap size .last .made)) (length (kmp w t cap size .last .found))
-    kmp-cut-off = at-end .cut-off
-
-    -- Document 01's ceiling.
-    pub kmp-ceiling : KmpCeiling (length w) (length t) (kmp w t cap size .ending) (length (kmp w t cap size .last .made))
-    kmp-ceiling = at (kmp w t cap size .ending) (length (kmp w t cap size .last .made)) (at-end .bound)
-      where
-        at : (e : Ending) (c : ℕ) → Bound (kmp-plan w) w t Holds Under method cap size e c → KmpCeiling (length w) (length t) e c
-        at Done c B = (λ l. let u = B .window l in omega (arith, u .1, u .2), B .idle)
-        at (Spent b) c B = B
-        at (Full b) c B = B
+  -- Document 01's ceiling.
+  pub kmp-ceiling : (cap size : ℕ) → KmpCeiling (length w) (length t) (kmp w t cap size .ending) (length (kmp w t cap size .last .made))
+  unfolding kmp
+  kmp-ceiling cap size =
+      at (kmp w t cap size .ending) (length (kmp w t cap size .last .made)) (kept (kmp-plan w) w t Holds Under method cap size .bound)
+    where
+      at : (e : Ending) (c : ℕ) → Bound w t Under e c → KmpCeiling (length w) (length t) e c
+      at Done c B = (λ l. let u = B .window l in omega (arith, u .1, u .2), B .idle)
+      at (Spent b) c B = B
+      at (Full b) c B = B

@@ -1,6 +1,7 @@
 -- The laws on the searches, a module an idea; a module uses those above it.
 pub mod Turns
 pub mod Rules
+pub mod Runs
 pub mod Occurs
 pub mod Method
 pub mod Excluded
@@ -11,4 +12,5 @@ pub mod KmpMethod
 pub mod SamePositions
 pub mod Passing
 pub mod Following
+pub mod Scans
 pub mod AllStarred

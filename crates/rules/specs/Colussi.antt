@@ -1,14 +1,14 @@
 -- The search in Colussi's order.
-use Prim.Native.Nat.{ℕ}
 use mathlib.Core.List.{List}
+use Prim.Native.Nat.{ℕ}
+use lib.ListN.{length}
 use Rattle.words.specs.Tables.{noholes, place, shift, next}
-use Rattle.rules.specs.Rules.{Plan, End, search}
+use Rattle.rules.specs.Rules.{Plan, Search, text-source, search}
 
 -- The plan of document 01's tables: the known edge moves on leaving with a rank of d or more.
-unfoldable pub colussi-plan : List ℕ → Plan
-unfolding noholes place shift next
-colussi-plan w = record { place = place w; shift = shift w; next = next w; edge-from = noholes w }
+abbrev pub colussi-plan : List ℕ → Plan
+colussi-plan w = record { m = length w; place = place w; shift = shift w; next = next w; edge-from = noholes w }
 
-unfoldable pub colussi : List ℕ → List ℕ → ℕ → ℕ → End
-unfolding search colussi-plan
-colussi w t cap size = search (colussi-plan w) w t cap size
+unfoldable pub colussi : Search
+unfolding search noholes place shift next
+colussi w t cap size = search (colussi-plan w) (text-source w t) cap size

@@ -6,7 +6,7 @@ use mathlib.Core.List.{List}
 use lib.Dec.{ltb}
 use lib.ListN.{length}
 use Rattle.words.specs.Tables.{nohole, kmin, rmin}
-use Rattle.rules.specs.Rules.{Plan, End, search}
+use Rattle.rules.specs.Rules.{Plan, Search, text-source, search}
 
 -- On a mismatch at i the shift is kmin(i) if i is a nohole, else i + 1; after an occurrence it is rmin(0), from i = m.
 unfoldable pub kmp-shift : List ℕ → ℕ → ℕ
@@ -17,10 +17,15 @@ kmp-shift w i = elim (ltb i (length w)) [
 ]
 
 -- The new matched length is the old less the shift, never below 0. The known edge never moves from 0: no rank is above m.
-unfoldable pub kmp-plan : List ℕ → Plan
-unfolding kmp-shift
-kmp-plan w = record { place = λ i. i; shift = kmp-shift w; next = λ i. i - kmp-shift w i; edge-from = suc (length w) }
+abbrev pub kmp-plan : List ℕ → Plan
+kmp-plan w = record {
+  m = length w;
+  place = λ i. i;
+  shift = kmp-shift w;
+  next = λ i. i - kmp-shift w i;
+  edge-from = suc (length w);
+}
 
-unfoldable pub kmp : List ℕ → List ℕ → ℕ → ℕ → End
-unfolding search kmp-plan
-kmp w t cap size = search (kmp-plan w) w t cap size
+unfoldable pub kmp : Search
+unfolding search kmp-shift
+kmp w t cap size = search (kmp-plan w) (text-source w t) cap size

@@ -6,14 +6,14 @@ use mathlib.Core.List.{List, [], _∷_, map}
 use Rattle.words.specs.Tables.{hmax, nohole, noholes, order, shift, next}
 
 -- The tables of a pattern, whose ranks up to m are listed beside it.
-pub record Tables (w ranks : List ℕ) (d : ℕ) (orders shifts nexts : List ℕ) : Type 0 where
+pub record Worked (w ranks : List ℕ) (d : ℕ) (orders shifts nexts : List ℕ) : Type 0 where
   pub noholes : noholes w ≡ d
   pub order : order w ≡ orders
   pub shift : map (shift w) ranks ≡ shifts
   pub next : map (next w) ranks ≡ nexts
 
 -- Document 01: aba.
-pub aba : Tables (97 ∷ 98 ∷ 97 ∷ []) (0 ∷ 1 ∷ 2 ∷ 3 ∷ []) 1 (1 ∷ 2 ∷ 0 ∷ []) (1 ∷ 3 ∷ 2 ∷ 2 ∷ []) (0 ∷ 0 ∷ 0 ∷ 0 ∷ [])
+pub aba : Worked (97 ∷ 98 ∷ 97 ∷ []) (0 ∷ 1 ∷ 2 ∷ 3 ∷ []) 1 (1 ∷ 2 ∷ 0 ∷ []) (1 ∷ 3 ∷ 2 ∷ 2 ∷ []) (0 ∷ 0 ∷ 0 ∷ 0 ∷ [])
 unfolding noholes order shift next
 aba = record { noholes = refl; order = refl; shift = refl; next = refl }
 
@@ -24,7 +24,7 @@ aba-end = refl
 
 -- Document 01: aabaa.
 pub aabaa :
-    Tables (97 ∷ 97 ∷ 98 ∷ 97 ∷ 97 ∷ []) (0 ∷ 1 ∷ 2 ∷ 3 ∷ 4 ∷ 5 ∷ []) 1
+    Worked (97 ∷ 97 ∷ 98 ∷ 97 ∷ 97 ∷ []) (0 ∷ 1 ∷ 2 ∷ 3 ∷ 4 ∷ 5 ∷ []) 1
     (2 ∷ 4 ∷ 3 ∷ 1 ∷ 0 ∷ [])
     (1 ∷ 5 ∷ 4 ∷ 3 ∷ 3 ∷ 3 ∷ [])
     (0 ∷ 0 ∷ 0 ∷ 0 ∷ 0 ∷ 0 ∷ [])

@@ -2,18 +2,9 @@
 use mathlib.Core.Path.{ap, _∙_}
 use borrow.Author.Needs.{needs}
 use Rattle.exports.specs.Carried.{carried}
-use Rattle.exports.proofs.Carrying.{located, under-ceiling}
+use Rattle.exports.proofs.Carrying.{promised-to-c}
 use Rattle.exports.proofs.poqewan_colussi.Statement.{statement}
 use Rattle.exports.proofs.poqewan_colussi.Tie as tie
-
-colussi-requires : tie.Need-colussi-requires
-colussi-requires c κs = search needs
-
-carry-requires : tie.Need-carry-requires
-carry-requires c κs = search needs
-
-same-length : tie.Need-same-length
-same-length c = search needs
 
 returns : tie.Need-returns
 returns c =
@@ -21,7 +12,7 @@ returns c =
     let a = at-search .colussi .result in
     let S = at-search .colussi .ensures in
     let C = c .carry .ensures in
-    (C ∙ ap carried (S .0), (S .1 .0, (located a C (S .1 .1 .0), under-ceiling _ _ a C (S .1 .1 .1))))
+    (C ∙ ap carried (S .0), (S .1 .0, (promised-to-c _ a C (S .1 .1 .0), promised-to-c _ a C (S .1 .1 .1))))
 
 pub poqewan-colussi-spec : {M : Type 1} → statement M
-poqewan-colussi-spec = tie.close (tie.spec colussi-requires carry-requires same-length returns)
+poqewan-colussi-spec = tie.close (tie.spec (λ c κs. search needs) (λ c κs. search needs) (λ c. search needs) returns)

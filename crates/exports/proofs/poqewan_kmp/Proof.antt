@@ -2,26 +2,19 @@
 use mathlib.Core.Path.{ap, _∙_}
 use borrow.Author.Needs.{needs}
 use Rattle.exports.specs.Carried.{carried}
-use Rattle.exports.proofs.Carrying.{located, under-kmp-ceiling}
+use Rattle.exports.proofs.Carrying.{promised-to-c}
 use Rattle.exports.proofs.poqewan_kmp.Statement.{statement}
 use Rattle.exports.proofs.poqewan_kmp.Tie as tie
-
-kmp-requires : tie.Need-kmp-requires
-kmp-requires c κs = search needs
-
-carry-requires : tie.Need-carry-requires
-carry-requires c κs = search needs
-
-same-length : tie.Need-same-length
-same-length c = search needs
 
 returns : tie.Need-returns
 returns c =
     let at-search = c .before .before .before in
     let a = at-search .kmp .result in
     let S = at-search .kmp .ensures in
-    let C = c .carry .ensures in
-    (C ∙ ap carried (S .0), (S .1 .0, (located a C (S .1 .1 .0), under-kmp-ceiling _ _ a C (S .1 .1 .1))))
+    let C = c .carry .ensures in (
+      C ∙ ap carried (S .0),
+      (S .1 .0, (promised-to-c _ a C (S .1 .1 .0), (promised-to-c _ a C (S .1 .1 .1 .0), promised-to-c _ a C (S .1 .1 .1 .1)))),
+    )
 
 pub poqewan-kmp-spec : {M : Type 1} → statement M
-poqewan-kmp-spec = tie.close (tie.spec kmp-requires carry-requires same-length returns)
+poqewan-kmp-spec = tie.close (tie.spec (λ c κs. search needs) (λ c κs. search needs) (λ c. search needs) returns)

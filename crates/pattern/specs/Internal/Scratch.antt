@@ -3,7 +3,7 @@ use Prim.Native.Nat.{ℕ, _+_, _*_, _≤_, _<_}
 use mathlib.Core.Path.{_≡_}
 use mathlib.Core.List.{List}
 use lib.ListN.{length, getD, drop}
-use Rattle.words.specs.Tables.{hmax, kmin, below, noholes}
+use Rattle.words.specs.Tables.{hmax, kmin, below}
 
 -- Lengths that pass the tests.
 pub record Sizes (w s : List ℕ) : Type 0 where
@@ -23,7 +23,7 @@ abbrev pub HasBelow : List ℕ → List ℕ → ℕ → Type 0
 HasBelow w s n = (p : ℕ) → p < n → getD s (514 + p) 0 ≡ below w p
 
 -- All three tables.
-pub record Tables (w s : List ℕ) : Type 0 where
+pub record HasTables (w s : List ℕ) : Type 0 where
   pub hmaxes : HasHmax w s (length w + 1)
   pub kmins : HasKmin w s
   pub belows : HasBelow w s (length w + 1)
@@ -56,7 +56,6 @@ pub record FillsKmin (w before after : List ℕ) : Type 0 where
   pub kmins : HasKmin w after
   pub rest : RestKept before after
 
-pub record FillsBelow (w before after : List ℕ) (d : ℕ) : Type 0 where
-  pub tables : Tables w after
-  pub noholes : d ≡ noholes w
+pub record FillsBelow (w before after : List ℕ) : Type 0 where
+  pub tables : HasTables w after
   pub rest : RestKept before after

@@ -1,11 +1,11 @@
 -- Each turn stores the count of the noholes passed, and counts the place if it is one. The invariant: the counts of the places
 -- below p are stored, and count is that of p. The measure is what is left of the pattern. Assumes nothing.
 use Prim.Native.Nat.{ℕ, _+_, _-_, _≤_}
-use mathlib.Core.Path.{_≡_, refl, ap, _∙_}
+use mathlib.Core.Path.{_≡_, refl, _∙_}
 use mathlib.Core.List.{List}
 use native.Mathlib.Omega.{arith}
 use lib.ListN.{length, set, length-set}
-use Rattle.words.specs.Tables.{kmin, below, noholes}
+use Rattle.words.specs.Tables.{kmin, below}
 use Rattle.words.proofs.Ranks.{below-le}
 use Rattle.pattern.proofs.Stores.{kept-same}
 use Rattle.pattern.proofs.Belows.{count-nohole, count-hole, Counted, counted-store}
@@ -112,14 +112,12 @@ same-length : tie.Need-same-length Inv-loop μ-loop
 same-length c = simp length-set (c .before .loop .inv .2 .kept .size)
 
 returns : tie.Need-returns Inv-loop μ-loop
-unfolding noholes
 returns c =
     let at-loop = c .before in
     let end : at-loop .loop .p ≡ length (word at-loop) = omega arith in
     let C = stored at-loop _ end in
     record {
       tables = record { hmaxes = C .hmaxes; kmins = C .kmins; belows = C .belows };
-      noholes = at-loop .loop .inv .1 ∙ ap (below (word at-loop)) end;
       rest = C .kept .rest;
     }
 

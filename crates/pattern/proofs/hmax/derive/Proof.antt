@@ -8,7 +8,7 @@ use lib.ListN.{length}
 use Rattle.words.specs.Tables.{hmax}
 use Rattle.words.proofs.Noholes.{hmax-is}
 use Rattle.pattern.specs.Internal.Scratch.{HasHmax}
-use Rattle.pattern.proofs.Stores.{Kept, kept-same, kept-store}
+use Rattle.pattern.proofs.Stores.{KeptRest, kept-same, kept-store}
 use Rattle.pattern.proofs.Hmaxes.{given, not-given, hmax-store}
 use Rattle.pattern.proofs.hmax.derive.Statement.{statement}
 use Rattle.pattern.proofs.hmax.derive.Tie as tie
@@ -17,7 +17,7 @@ record Inv (w before s : List ℕ) (k q : ℕ) : Type 0 where
   pub above : k < q
   pub upto : q ≤ length w + 1
   pub known : HasHmax w s q
-  pub kept : Kept before s
+  pub kept : KeptRest before s
 
 abbrev Inv-loop : tie.InvT-loop
 Inv-loop bytes scratch₀ k i q₀ scratch q = Inv bytes scratch₀ scratch k q

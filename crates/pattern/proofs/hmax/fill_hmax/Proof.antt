@@ -8,7 +8,7 @@ use lib.ListN.{length, length-set}
 use Rattle.words.specs.Tables.{hmax}
 use Rattle.words.proofs.Noholes.{hmax-is}
 use Rattle.pattern.specs.Internal.Scratch.{HasHmax}
-use Rattle.pattern.proofs.Stores.{Kept, kept-same, kept-both, kept-store}
+use Rattle.pattern.proofs.Stores.{KeptRest, kept-same, kept-both, kept-store}
 use Rattle.pattern.proofs.Hmaxes.{hmax-store}
 use Rattle.pattern.proofs.hmax.fill_hmax.Statement.{statement}
 use Rattle.pattern.proofs.hmax.fill_hmax.Tie as tie
@@ -20,7 +20,7 @@ record Inv (w before s : List ℕ) (k i compared : ℕ) : Type 0 where
   pub start : k ≤ length w → i ≤ hmax w k
   pub few : compared + 2 ≤ i + k
   pub known : HasHmax w s k
-  pub kept : Kept before s
+  pub kept : KeptRest before s
 
 abbrev Inv-loop : tie.InvT-loop
 Inv-loop bytes scratch₀ k₀ i₀ compared₀ scratch k i compared = Inv bytes scratch₀ scratch k i compared

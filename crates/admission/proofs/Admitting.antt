@@ -1,0 +1,62 @@
+-- Who is let in, test by test. Assumes nothing.
+use Prim.Native.Nat.{ℕ, _≤_, _<_}
+use mathlib.Core.Path.{_≡_, refl, sym, ap, _∙_}
+use mathlib.Core.Logic.{_↔_}
+use mathlib.Core.Bool.{Bool, true, false}
+use native.Mathlib.Omega.{arith}
+use lib.Dec.{leb}
+use borrow.Author.Tests.{le-leb, lt-leb, leb-true}
+use Rattle.pattern.specs.Check.{isPrepared}
+use Rattle.pattern.specs.declared.Pattern.{Pattern}
+use Rattle.pattern.proofs.Checked.{is-prepared}
+use Rattle.refusal.specs.declared.Refusal.the-variants.{FalsePattern, LongText}
+use Rattle.admission.specs.Admitted.{longestText, unless, judged, admitted, IsAdmitted}
+use Rattle.admission.specs.declared.Admission.{Admission}
+use Rattle.admission.specs.declared.Admission.the-variants.{Admitted, Refused}
+
+-- ---- The tests in their order
+
+module _ {prepared : Bool} (n : ℕ) where
+  pub false-pattern : prepared ≡ false → judged prepared n ≡ Refused FalsePattern
+  unfolding judged
+  false-pattern e = rw (e, judged) refl
+
+  module _ (passes : prepared ≡ true) where
+    pub long-text : longestText < n → judged prepared n ≡ Refused LongText
+    unfolding judged
+    long-text l = rw (passes, lt-leb n longestText l, judged) refl
+
+    pub lets-in : n ≤ longestText → judged prepared n ≡ Admitted
+    unfolding judged
+    lets-in l = rw (passes, le-leb n longestText l, judged) refl
+
+-- Both tests pass where nothing is refused.
+both-pass : (a b : Bool) → unless a FalsePattern (unless b LongText Admitted) ≡ Admitted → (a ≡ true) × (b ≡ true)
+both-pass true true e = (refl, refl)
+both-pass true false e = absurd (let z : _≡_ {A = ℕ} 0 1 = cc in omega arith)
+both-pass false b e = absurd (let z : _≡_ {A = ℕ} 0 1 = cc in omega arith)
+
+judged-is : (prepared : Bool) (n : ℕ) → judged prepared n ≡ Admitted → (prepared ≡ true) × (n ≤ longestText)
+unfolding judged
+judged-is prepared n e = let h = both-pass prepared (leb n longestText) e in (h .0, leb-true n longestText (h .1))
+
+-- What `admit` ensures of its answer r.
+pub answers : (prepared : Bool) (n : ℕ) {r : Admission} → r ≡ judged prepared n
+    → (r ≡ judged prepared n) × ((r ≡ Admitted) ↔ ((prepared ≡ true) × (n ≤ longestText)))
+answers prepared n e = (e, rw e (judged-is prepared n, λ h. lets-in n (h .0) (h .1)))
+
+-- ---- A pattern at the door
+
+module _ (p : Pattern) (n : ℕ) where
+  -- The door is told what `is_prepared` answers.
+  pub at-the-door : {a : Admission} {r : Bool} → a ≡ judged r n → r ≡ isPrepared p → admitted p n ≡ a
+  unfolding admitted
+  at-the-door e q = ap (λ b. judged b n) (sym q) ∙ sym e
+
+  pub admitted-is : admitted p n ≡ Admitted → IsAdmitted p n
+  unfolding admitted
+  admitted-is e = let h = judged-is (isPrepared p) n e in record { prepared = is-prepared p .0 (h .0); fits = h .1 }
+
+  pub admitted-of : IsAdmitted p n → admitted p n ≡ Admitted
+  unfolding admitted
+  admitted-of I = lets-in n (is-prepared p .1 (I .prepared)) (I .fits)

@@ -1,0 +1,34 @@
+-- Who is let in to a search: tests 4 and 5 of document 01's table "Turned away".
+use Prim.Native.Nat.{ℕ, _≤_}
+use mathlib.Core.Bool.{Bool, true, false}
+use lib.Dec.{leb}
+use Rattle.pattern.specs.Check.{isPrepared, IsPrepared}
+use Rattle.pattern.specs.declared.Pattern.{Pattern}
+use Rattle.refusal.specs.declared.Refusal.{Refusal}
+use Rattle.refusal.specs.declared.Refusal.the-variants.{FalsePattern, LongText}
+use Rattle.admission.specs.declared.Admission.{Admission}
+use Rattle.admission.specs.declared.Admission.the-variants.{Admitted, Refused}
+
+-- The longest text, in bytes.
+abbrev pub longestText : ℕ
+longestText = 16777216
+
+-- Refused, unless a test passes.
+abbrev pub unless : Bool → Refusal → Admission → Admission
+unless true why then = then
+unless false why then = Refused why
+
+-- Tests 4 and 5, in that order, of whether a pattern is prepared and a text of n bytes: the first that fails is the answer, by its number in
+-- the table.
+unfoldable pub judged : Bool → ℕ → Admission
+judged prepared n = unless prepared FalsePattern (unless (leb n longestText) LongText Admitted)
+
+-- The answer to a pattern and a text of n bytes.
+unfoldable pub admitted : Pattern → ℕ → Admission
+unfolding isPrepared judged
+admitted p n = judged (isPrepared p) n
+
+-- In plain terms.
+pub record IsAdmitted (p : Pattern) (n : ℕ) : Type 0 where
+  pub prepared : IsPrepared p
+  pub fits : n ≤ longestText

@@ -1,0 +1,14 @@
+-- No refusal has the number 0, which may therefore stand for none. Assumes nothing.
+use mathlib.Core.Path.{_≡_}
+use native.Mathlib.Omega.{arith}
+use Rattle.refusal.specs.declared.Refusal.{Refusal}
+use Rattle.refusal.specs.declared.Refusal.the-variants.{NoPattern, LongPattern, ShortScratch, FalsePattern, LongText, ShortInput}
+use Rattle.refusal.specs.Numbers.{numberOf}
+
+pub number-not-0 : (why : Refusal) → numberOf why ≡ 0 → ⊥
+number-not-0 NoPattern e = omega arith
+number-not-0 LongPattern e = omega arith
+number-not-0 ShortScratch e = omega arith
+number-not-0 FalsePattern e = omega arith
+number-not-0 LongText e = omega arith
+number-not-0 ShortInput e = omega arith

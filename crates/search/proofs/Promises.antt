@@ -1,0 +1,100 @@
+-- The promises in plain terms, as laws of what a search answers. Assumes nothing.
+use Prim.Native.Nat.{ℕ, _≤_}
+use mathlib.Core.Path.{_≡_, sym, ap, _∙_}
+use mathlib.Core.List.{List, _++_}
+use native.Mathlib.Omega.{arith}
+use lib.ListN.{length, take, drop, length-append, length-drop}
+use lib.Seq.{take-append-seam}
+use Rattle.admission.specs.Admitted.{IsAdmitted}
+use Rattle.pattern.specs.Letters.{wordOf, textOf}
+use Rattle.pattern.specs.declared.Pattern.{Pattern}
+use Rattle.pattern.proofs.Letters.{length-text}
+use Rattle.pattern.proofs.Reading.{Fields, fields-of}
+use Rattle.rules.specs.Rules.{End, Search}
+use Rattle.rules.specs.Colussi.{colussi}
+use Rattle.rules.specs.Kmp.{kmp}
+use Rattle.rules.specs.Promise.{CutOff}
+use Rattle.rules.specs.Report.{reportOf, filled}
+use Rattle.rules.specs.declared.Ending.{Ending}
+use Rattle.rules.specs.declared.Ending.the-variants.{Done, Spent, Full}
+use Rattle.rules.proofs.Method.{Finds}
+use Rattle.rules.proofs.ColussiMethod.{colussi-finds, colussi-ceiling}
+use Rattle.rules.proofs.KmpMethod.{kmp-finds, kmp-ceiling}
+use Rattle.rules.proofs.SamePositions.{same-positions}
+use Rattle.search.specs.Answer.{answerBy, listBy}
+use Rattle.search.specs.Promise.{IfRan, Located, UnderCeiling, UnderKmpCeiling, AsColussi}
+use Rattle.search.specs.declared.SearchAnswer.{SearchAnswer}
+use Rattle.search.proofs.Answers.{Answers, promised}
+
+-- The list begins with the positions found.
+begins-with-found : (s : End) (lent : List ℕ) → take (reportOf s .written) (filled s lent) ≡ s .last .found
+unfolding reportOf filled
+begins-with-found s lent = take-append-seam (s .last .found) (drop (length (s .last .found)) lent)
+
+module _ (search : Search) (w t : List ℕ) (cap : ℕ) (lent : List ℕ) where
+  -- No search writes more positions than the list has entries.
+  room : (e : Ending) (c k : ℕ) → CutOff search w t cap (length lent) e c k → k ≤ length lent
+  room Done c k C = C .1
+  room (Spent b) c k C = C .3
+  room (Full b) c k C = omega (arith, C .2)
+
+  -- Demand 2.
+  pub located : Finds search w t cap (length lent)
+      → Located search w t cap (filled (search w t cap (length lent)) lent) (reportOf (search w t cap (length lent)))
+  unfolding reportOf filled
+  located F =
+      let s : End = search w t cap (length lent) in
+      let found : List ℕ = s .last .found in
+      let size : length (found ++ drop (length found) lent) ≡ length lent =
+      length-append found (drop (length found) lent)
+      ∙ omega (arith, length-drop (length found) lent, room (s .ending) (length (s .last .made)) (length found) (F .cut-off)) in
+      record {
+        exactly = take-append-seam found (drop (length found) lent) ∙ F .exactly;
+        lists = rw (take-append-seam found (drop (length found) lent)) (F .lists);
+        cut-off = rw size (F .cut-off);
+      }
+
+module _ (p : Pattern) (t : List ℕ) (cap : ℕ) (lent : List ℕ) where
+  -- A pattern that is let in has a letter.
+  some : IsAdmitted p (length t) → 1 ≤ length (wordOf p)
+  some I = let F = fields-of p (I .prepared) in omega (arith, F .some, F .word)
+
+  -- What `colussi` ensures of its answer and its list.
+  pub colussi-promises : {r : SearchAnswer} {after : List ℕ} → Answers colussi p t cap lent r after
+      → (r ≡ answerBy colussi p t cap (length lent)) × ((after ≡ listBy colussi p t cap lent)
+      × (IfRan (Located colussi (wordOf p) (textOf p t) cap after) r × IfRan (UnderCeiling (length (wordOf p)) (length t)) r))
+  colussi-promises A = (
+    A .answer,
+    (
+      A .list,
+      (
+        promised colussi p t cap lent (Located colussi (wordOf p) (textOf p t) cap)
+            (λ I. located colussi (wordOf p) (textOf p t) cap lent (colussi-finds (wordOf p) (textOf p t) (some I) cap (length lent))) A,
+        promised colussi p t cap lent (λ after r. UnderCeiling (length (wordOf p)) (length t) r)
+            (λ I. unfold reportOf in rw (length-text p t) at (colussi-ceiling (wordOf p) (textOf p t) (some I) cap (length lent))) A,
+      ),
+    ),
+  )
+
+  -- What `kmp` ensures of them.
+  pub kmp-promises : {r : SearchAnswer} {after : List ℕ} → Answers kmp p t cap lent r after
+      → (r ≡ answerBy kmp p t cap (length lent)) × ((after ≡ listBy kmp p t cap lent)
+      × (IfRan (Located kmp (wordOf p) (textOf p t) cap after) r × (IfRan (UnderKmpCeiling (length (wordOf p)) (length t)) r
+      × IfRan (AsColussi (wordOf p) (textOf p t) after) r)))
+  kmp-promises A = (
+    A .answer,
+    (
+      A .list,
+      (
+        promised kmp p t cap lent (Located kmp (wordOf p) (textOf p t) cap)
+            (λ I. located kmp (wordOf p) (textOf p t) cap lent (kmp-finds (wordOf p) (textOf p t) (some I) cap (length lent))) A,
+        (
+          promised kmp p t cap lent (λ after r. UnderKmpCeiling (length (wordOf p)) (length t) r)
+              (λ I. unfold reportOf in rw (length-text p t) at (kmp-ceiling (wordOf p) (textOf p t) (some I) cap (length lent))) A,
+          promised kmp p t cap lent (AsColussi (wordOf p) (textOf p t))
+              (λ I done cap' size' done'. begins-with-found (kmp (wordOf p) (textOf p t) cap (length lent)) lent
+              ∙ sym (same-positions (wordOf p) (textOf p t) (some I) cap' size' cap (length lent) done' (unfold reportOf in done))) A,
+        ),
+      ),
+    ),
+  )

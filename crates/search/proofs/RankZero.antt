@@ -1,0 +1,155 @@
+-- Windows that miss at rank 0, as a search by the rules passes them. Assumes nothing.
+use Prim.Native.Nat.{ℕ, zero, suc, _+_, _-_, _*_, _≤_, _<_}
+use mathlib.Core.Path.{_≡_, sym, ap, _∙_}
+use mathlib.Core.Logic.{⊎-elim}
+use mathlib.Core.Bool.{true, false}
+use mathlib.Core.List.{List, _∷_}
+use native.Mathlib.Omega.{arith}
+use lib.ListN.{length, getD}
+use borrow.Author.Tests.{eq-eqb, ne-eqb}
+use Rattle.words.specs.Tables.{letter}
+use Rattle.words.proofs.Cases.{less-or}
+use Rattle.rules.specs.Rules.{Plan, text-source, Compared, edge-after}
+use Rattle.rules.specs.Internal.Passing.{Due, Agree, one, Passes}
+use Rattle.rules.proofs.Rules.{Moving, edge-kept}
+use Rattle.rules.proofs.Passing.{passes-nothing, passes-on, passes-matched, passes-missed}
+use Rattle.rules.proofs.Following.{Ranges}
+use Rattle.rules.proofs.Scans.{Scans, scans-on}
+use Rattle.search.specs.Internal.RankZero.{Skips, Ahead}
+
+-- ---- In the terms of the code
+
+-- Window b matches at once.
+pub ahead-at-once : (text : List ℕ) (x o last cap b c : ℕ) → b ≤ last → c < cap → getD text (b + o) 0 ≡ x → Ahead text x o last cap b c b 1 (c + 1)
+ahead-at-once text x o last cap b c inside more is = record {
+  from = omega arith;
+  upto = omega arith;
+  missed = λ v l h. absurd (omega arith);
+  rank = omega arith;
+  matched = λ _. (inside, is);
+  count = omega arith;
+  capped = omega arith;
+}
+
+-- Window b misses, and the skip from there ends at p, with room for that many windows and comparisons more.
+module _ (text : List ℕ) (x o last cap b c room p k : ℕ) (miss : getD text (b + o) 0 ≡ x → ⊥) (windows : b + room ≤ last) (comparisons : c + room < cap)
+    (S : Skips text x (b + o + 1) (b + o + 1 + room) p) (at : p ≡ b + o + k) where
+  passed : (v : ℕ) → b ≤ v → v < b + k → getD text (v + o) 0 ≡ x → ⊥
+  passed v l h q = ⊎-elim
+      (λ (a : b < v). S .passed (v + o) (omega arith) (omega arith) q)
+      (λ (a : v ≤ b). miss (ap (λ u. getD text u 0) (omega arith) ∙ q))
+      (less-or b v)
+
+  pub ahead-matched : k ≤ room → Ahead text x o last cap b c (b + k) 1 (c + k + 1)
+  ahead-matched l = record {
+    from = omega arith;
+    upto = omega arith;
+    missed = passed;
+    rank = omega arith;
+    matched = λ _. (omega arith, ap (λ u. getD text u 0) (omega arith) ∙ S .found (omega arith));
+    count = omega arith;
+    capped = omega arith;
+  }
+
+  pub ahead-missed : room < k → Ahead text x o last cap b c (b + k) 0 (c + k)
+  ahead-missed l = record {
+    from = omega arith;
+    upto = omega (arith, S .upto);
+    missed = passed;
+    rank = omega arith;
+    matched = λ one. absurd (omega arith);
+    count = omega arith;
+    capped = omega (arith, S .upto);
+  }
+
+-- ---- In the terms of the rules
+
+-- A plan that leaves a window which misses at rank 0 by 1, for rank 0 again, and with the edge as it was.
+pub record ByOne (plan : Plan) : Type 0 where
+  pub some : 1 ≤ plan .m
+  pub moving : Moving plan
+  pub shift : plan .shift 0 ≡ 1
+  pub next : plan .next 0 ≡ 0
+  pub early : 0 < plan .edge-from
+
+-- The comparisons of k windows from b on that miss at rank 0, after those made.
+pub misses : Plan → ℕ → ℕ → List Compared → List Compared
+misses plan b zero made = made
+misses plan b (suc k) made = one plan (b + k) 0 false ∷ misses plan b k made
+
+length-misses : (plan : Plan) (b k : ℕ) (made : List Compared) → length (misses plan b k made) ≡ length made + k
+unfolding misses
+length-misses plan b zero made = omega arith
+length-misses plan b (suc k) made = omega (arith, length-misses plan b k made)
+
+module _ (plan : Plan) (w text : List ℕ) (by : ByOne plan) {x o last cap b c b' i' c' : ℕ} (A : Ahead text x o last cap b c b' i' c')
+    (ends : last + plan .m ≡ length text) (at : plan .place 0 ≡ o) (is : letter w o ≡ x) (e : ℕ) (beyond : e ≤ b + o) where
+  due : (v : ℕ) → b ≤ v → Due plan v 0 e
+  due v l = record { rank = by .some; beyond = omega (arith, at) }
+
+  -- The letters agree at rank 0 of a window if the text has x there.
+  agree : (v : ℕ) → getD text (v + o) 0 ≡ x → Agree plan w text v 0
+  agree v q = rw at (is ∙ sym q)
+
+  agree-only : (v : ℕ) → Agree plan w text v 0 → getD text (v + o) 0 ≡ x
+  agree-only v q = sym (sym is ∙ (rw at at q))
+
+  module _ (made : List Compared) (count : length made ≡ c) where
+    -- Each of the first k windows is left.
+    missed : (k : ℕ) → b + k ≤ b'
+        → Passes plan (text-source w text) cap b 0 e made (b + k) 0 e (misses plan b k made)
+    unfolding misses
+    missed zero l = let y : b + 0 ≡ b = omega arith in rw y (passes-nothing plan (text-source w text) cap b 0 e made)
+    missed (suc k) l = passes-on plan (text-source w text) cap (missed k (omega arith)) (rw (window, by .next, edge) at left)
+      where
+        left : Passes plan (text-source w text) cap (b + k) 0 e (misses plan b k made)
+            (b + k + plan .shift 0) (plan .next 0) (edge-after plan 0 (b + k) e) (one plan (b + k) 0 false ∷ misses plan b k made)
+        left = passes-missed plan (text-source w text) cap (by .moving) (b + k) 0 e (misses plan b k made)
+            (omega (arith, ends, A .upto))
+            (due (b + k) (omega arith))
+            (λ z. omega (arith, A .count, A .capped, length-misses plan b k made))
+            (ne-eqb _ _ (λ q. A .missed (b + k) (omega arith) (omega arith) (agree-only (b + k) q)))
+
+        window : b + k + plan .shift 0 ≡ b + suc k
+        window = omega (arith, by .shift)
+
+        edge : edge-after plan 0 (b + k) e ≡ e
+        edge = edge-kept plan 0 (b + k) e (by .early)
+
+    -- And, if one does, the next window matches.
+    met : (k : ℕ) → b' ≡ b + k → 1 ≤ i'
+        → Passes plan (text-source w text) cap b 0 e made b' 1 e (one plan b' 0 true ∷ misses plan b k made)
+    met k window l = passes-on plan (text-source w text) cap
+        (rw window (missed k (omega arith)))
+        (passes-matched plan (text-source w text) cap (by .moving) b' 0 e (misses plan b k made)
+        (omega (arith, ends, A .matched l .0))
+        (due b' (A .from))
+        (λ z. omega (arith, A .count, A .capped, length-misses plan b k made))
+        (eq-eqb _ _ (agree b' (A .matched l .1))))
+
+  -- A scan passes all of them, and the comparison that matches, if one does.
+  pub scans-ahead : Ranges plan → {before after : List ℕ} {k : ℕ} → Scans plan w text cap before after b 0 e c k
+      → Scans plan w text cap before after b' i' e c' k
+  scans-ahead R {before} {after} {k} F = ⊎-elim
+      (λ (l : i' < 1).
+      let rank : i' ≡ 0 = omega arith in
+      rw rank (scans-on plan w text cap before R F (misses plan b d (F .made))
+      (omega (arith, length-misses plan b d (F .made), A .count, F .count))
+      (rw (sym window) at (missed (F .made) (F .count) d (omega arith)))
+      inside (omega arith) (A .capped)))
+      (λ (l : 1 ≤ i').
+      let rank : i' ≡ 1 = omega (arith, A .rank) in
+      rw rank (scans-on plan w text cap before R F (one plan b' 0 true ∷ misses plan b d (F .made))
+      (omega (arith, length-misses plan b d (F .made), A .count, F .count))
+      (met (F .made) (F .count) d window l)
+      inside (by .some) (A .capped)))
+      (less-or i' 1)
+    where
+      d : ℕ
+      d = b' - b
+
+      window : b' ≡ b + d
+      window = omega (arith, A .from)
+
+      inside : b' ≤ length text
+      inside = omega (arith, A .upto, ends, by .some)

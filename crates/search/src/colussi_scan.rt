@@ -1,0 +1,127 @@
+// The scan of a text in Colussi's order, over the tables of a pattern that are lent. It makes exactly the comparisons that it counts.
+use super::ends::ended;
+use super::entries::wide8;
+use super::entries::wide16;
+use super::letters::agree;
+use super::rank_zero::ahead;
+use rules::Ending;
+use rules::Report;
+ghost use mathlib.Core.Path.{_≡_};
+ghost use Prim.Native.Nat.{_+_, _^_, _≤_, _<_};
+ghost use lib.ListN.{length, getD, take};
+ghost use Rattle.rules.specs.Colussi.{colussi};
+ghost use Rattle.rules.specs.Report.{Reported};
+ghost use Rattle.search.specs.Internal.ColussiScan.{LentOrder, LentMoves, DueAt, edgeAfter};
+
+// The next window, the rank that it starts with and the known edge.
+pub struct Next {
+    pub window: usize,
+    pub rank: usize,
+    pub edge: usize,
+}
+
+// Window b is left with a rank.
+pub fn leave<'a>(
+    shift: &'a [u16],
+    next: &'a [u16],
+    m: usize,
+    d: usize,
+    b: usize,
+    rank: usize,
+    e: usize,
+) -> Next
+    requires { ⌜ (rank < length (now shift)) × (rank < length (now next)) × (b + m < 2 ^ 32) ⌝ }
+    ensures { λ r. ⌜ (r .window ≡ b + getD (now (shift .entry)) rank 0) × (r .rank ≡ getD (now (next .entry)) rank 0) × (r .edge ≡ edgeAfter m d b rank e) ⌝ }
+{
+    let window = b + wide16(shift[rank]);
+    let i = wide16(next[rank]);
+    if rank < d {
+        return Next {
+            window,
+            rank: i,
+            edge: e,
+        };
+    }
+    Next {
+        window,
+        rank: i,
+        edge: b + m,
+    }
+}
+
+// Whether a comparison is due at rank i of window b: it is not past the last rank, nor where the text is known.
+pub fn due(order: &[u8], m: usize, b: usize, i: usize, e: usize) -> bool
+    requires { ⌜ (i ≤ m) × (m ≤ length (now order)) × (b < 2 ^ 32) ⌝ }
+    ensures { λ r. ⌜ DueAt (now (order .entry)) m b i e r ⌝ }
+{
+    if i == m {
+        return false;
+    }
+    e <= b + wide8(order[i])
+}
+
+// The whole text.
+pub fn scan<'a>(
+    bytes: &'a [u8],
+    order: &'a [u8],
+    shift: &'a [u16],
+    next: &'a [u16],
+    m: usize,
+    d: usize,
+    text: &[u8],
+    cap: u64,
+    positions: &mut [u32],
+) -> Report
+    requires { ⌜ LentOrder (now bytes) (now order) m d ⌝ }
+    requires { ⌜ LentMoves (now bytes) (now shift) (now next) m ⌝ }
+    requires { ⌜ length (now text) < 2 ^ 32 ⌝ }
+    ensures { λ r. ⌜ Reported (colussi (take m (now (bytes .entry))) (now (text .entry)) cap (length (now (positions .entry)))) (now (positions .entry)) (now (positions .exit)) r ⌝ }
+{
+    if text.len() < m {
+        return ended(Ending::Done, 0, 0);
+    }
+    let last = text.len() - m;
+    let first = wide8(order[0]);
+    let x = bytes[first];
+    let mut b: usize = 0;
+    let mut i: usize = 0;
+    let mut e: usize = 0;
+    let mut c: u64 = 0;
+    let mut k: usize = 0;
+    while b <= last {
+        if due(order, m, b, i, e) {
+            let o = wide8(order[i]);
+            if c == cap {
+                return ended(Ending::Spent(b), c, k);
+            }
+            c += 1;
+            if agree(bytes[o], text[b + o]) {
+                i += 1;
+            } else {
+                let after = leave(shift, next, m, d, b, i, e);
+                b = after.window;
+                i = after.rank;
+                e = after.edge;
+                // Rank 0 is a nohole's where there are any: windows that miss there are passed at once.
+                if (i == 0) & (0 < d) & (b <= last) {
+                    if e <= b + first {
+                        let spot = ahead(text, x, first, last, b, c, cap);
+                        b = spot.window;
+                        i = spot.rank;
+                        c = spot.count;
+                    }
+                }
+            }
+        } else {
+            if k == positions.len() {
+                return ended(Ending::Full(b), c, k);
+            }
+            positions[k] = b as u32;
+            k += 1;
+            e = b + m;
+            b += wide16(shift[m]);
+            i = wide16(next[m]);
+        }
+    }
+    ended(Ending::Done, c, k)
+}
