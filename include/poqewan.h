@@ -1,6 +1,6 @@
 /*
  * Exact search for every occurrence of a byte pattern in a text, with the comparisons of a pattern byte with a text byte
- * counted. Link the archive of the crate `exports`. Example:
+ * counted. Link libpoqewan.a, which is for x86-64. Example:
  *
  *     uint16_t scratch[POQEWAN_SCRATCH];
  *     uint32_t positions[8192];
@@ -12,9 +12,10 @@
  *     }
  *
  * Every function answers whatever it is given: what it answers, and what the lent memory then holds, is fixed by the
- * arguments alone and proved. A caller owes only what C asks of pointers: each is followed by the number of elements that
- * it leads to, and memory that a function writes overlaps nothing else that the call is given. With a number of 0 the
- * pointer is not followed. No function keeps a pointer, allocates, or changes anything but what is said below.
+ * arguments alone and proved. A caller owes what C asks of pointers: each is followed by the number of elements that it
+ * leads to. And one thing more, which C would not ask: memory that a function writes overlaps nothing else that the call
+ * is given. With a number of 0 the pointer is not followed. No function keeps a pointer, allocates, or changes anything
+ * but what is said below.
  */
 #ifndef POQEWAN_H
 #define POQEWAN_H
@@ -31,7 +32,7 @@ extern "C" {
 #define POQEWAN_LONGEST_TEXT 16777216
 #define POQEWAN_SCRATCH 771
 
-/* Refusals, by their numbers. Where more than one applies, the least is given. */
+/* Refusals, by their numbers. Where more than one applies, the first in the function's order of tests is given. */
 #define POQEWAN_NO_PATTERN 1
 #define POQEWAN_LONG_PATTERN 2
 #define POQEWAN_SHORT_SCRATCH 3
@@ -47,13 +48,13 @@ extern "C" {
 /* A pattern prepared for search: m bytes and their tables. The entries past those defined are 0. A search refuses any value
    that preparation does not give, so a copy from a file or a wire needs no check of its own. */
 typedef struct poqewan_pattern {
-    size_t len;         /* m, from 1 to 256 */
-    size_t noholes;     /* the number of noholes */
-    uint8_t bytes[256]; /* m bytes */
-    uint8_t order[256]; /* the place that each rank compares: m entries */
-    uint16_t shift[257]; /* how far the window moves, for each rank and for rank m: m + 1 entries */
-    uint16_t next[257];  /* the rank to go on at: m + 1 entries */
-    uint64_t marks[4];  /* the noholes: place p at bit p mod 64 of word p div 64 */
+    size_t len;     /* m, from 1 to POQEWAN_LONGEST_PATTERN */
+    size_t noholes; /* the number of noholes */
+    uint8_t bytes[POQEWAN_LONGEST_PATTERN];      /* m bytes */
+    uint8_t order[POQEWAN_LONGEST_PATTERN];      /* the place that each rank compares: m entries */
+    uint16_t shift[POQEWAN_LONGEST_PATTERN + 1]; /* how far the window moves, for each rank and for rank m: m + 1 entries */
+    uint16_t next[POQEWAN_LONGEST_PATTERN + 1];  /* the rank to go on at: m + 1 entries */
+    uint64_t marks[4]; /* the noholes: place p at bit p mod 64 of word p div 64 */
 } poqewan_pattern;
 
 /* The number of a refusal, and then the pattern is all zero; or 0 and the pattern. */
@@ -72,17 +73,17 @@ typedef struct poqewan_report {
 } poqewan_report;
 
 /*
- * Prepares a pattern for search. Refused, in this order: no byte (1), more than 256 bytes (2), a scratch of fewer than 771
- * numbers (3). After success the first 771 numbers of the scratch are 0 and the rest unchanged; after a refusal it is
- * unchanged.
+ * Prepares a pattern for search. Refused, in this order: no byte (1), more than POQEWAN_LONGEST_PATTERN bytes (2), a
+ * scratch of fewer than POQEWAN_SCRATCH numbers (3). After success the first POQEWAN_SCRATCH numbers of the scratch are 0
+ * and the rest unchanged; after a refusal it is unchanged.
  */
 poqewan_preparation poqewan_prepare(const uint8_t *bytes, size_t bytes_len, uint16_t *scratch, size_t scratch_len);
 
 /*
  * Searches a text in Colussi's order, with at most `cap` comparisons, and fills the list from its start with the positions
  * where the pattern occurs, overlaps included. The entries after them are unchanged. Refused, in this order, with the list
- * unchanged: a pattern that is not what preparation gives for its own length and bytes (4), a text of more than 16,777,216
- * bytes (5).
+ * unchanged: a pattern that is not what preparation gives for its own length and bytes (4), a text of more than
+ * POQEWAN_LONGEST_TEXT bytes (5).
  *
  * The positions are exactly the occurrences, ascending, each once; of a search cut off at window b, exactly those below b.
  * It is spent only with `count` equal to `cap` and a comparison due, and full only with every entry of the list written and

@@ -45,34 +45,35 @@ pub const SCRATCH: usize = 771;
 #[repr(C)]
 #[derive(Clone, Copy, Debug, PartialEq, Eq)]
 pub struct Pattern {
-    /// m, from 1 to 256.
+    /// m, from 1 to [`LONGEST_PATTERN`].
     pub len: usize,
     /// The number of noholes.
     pub noholes: usize,
     /// m bytes.
-    pub bytes: [u8; 256],
+    pub bytes: [u8; LONGEST_PATTERN],
     /// The place that each rank compares: m entries.
-    pub order: [u8; 256],
+    pub order: [u8; LONGEST_PATTERN],
     /// How far the window moves, for each rank and for rank m: m + 1 entries.
-    pub shift: [u16; 257],
+    pub shift: [u16; LONGEST_PATTERN + 1],
     /// The rank to go on at: m + 1 entries.
-    pub next: [u16; 257],
+    pub next: [u16; LONGEST_PATTERN + 1],
     /// The noholes: place p at bit p mod 64 of word p div 64.
     pub marks: [u64; 4],
 }
 
-/// Why a call was refused. Where more than one applies, the one with the least number is given.
+/// Why a call was refused. Where more than one applies, the first in the function's order of tests
+/// is given.
 #[derive(Clone, Copy, Debug, PartialEq, Eq, Hash)]
 pub enum Refusal {
     /// The pattern has no byte.
     NoPattern = 1,
-    /// The pattern has more than 256 bytes.
+    /// The pattern has more than [`LONGEST_PATTERN`] bytes.
     LongPattern = 2,
-    /// The scratch has fewer than 771 numbers.
+    /// The scratch has fewer than [`SCRATCH`] numbers.
     ShortScratch = 3,
     /// The pattern is not what preparation gives for its own length and bytes.
     FalsePattern = 4,
-    /// The text has more than 16,777,216 bytes.
+    /// The text has more than [`LONGEST_TEXT`] bytes.
     LongText = 5,
 }
 
@@ -88,12 +89,12 @@ impl fmt::Display for Refusal {
     fn fmt(&self, f: &mut fmt::Formatter<'_>) -> fmt::Result {
         f.write_str(match self {
             Self::NoPattern => "the pattern has no byte",
-            Self::LongPattern => "the pattern has more than 256 bytes",
-            Self::ShortScratch => "the scratch has fewer than 771 numbers",
+            Self::LongPattern => "the pattern has too many bytes",
+            Self::ShortScratch => "the scratch has too few numbers",
             Self::FalsePattern => {
                 "the pattern is not what preparation gives for its length and bytes"
             }
-            Self::LongText => "the text has more than 16,777,216 bytes",
+            Self::LongText => "the text has too many bytes",
         })
     }
 }
@@ -124,13 +125,13 @@ pub struct Report {
 
 /// Prepares a pattern for search.
 ///
-/// After success the first 771 numbers of the scratch are 0 and the rest unchanged; after a refusal
-/// it is unchanged.
+/// After success the first [`SCRATCH`] numbers of the scratch are 0 and the rest unchanged; after a
+/// refusal it is unchanged.
 ///
 /// # Errors
 ///
-/// Refused, in this order: no byte (1), more than 256 bytes (2), a scratch of fewer than 771
-/// numbers (3).
+/// Refused, in this order: no byte (1), more than [`LONGEST_PATTERN`] bytes (2), a scratch of fewer
+/// than [`SCRATCH`] numbers (3).
 pub fn prepare(bytes: &[u8], scratch: &mut [u16]) -> Result<Pattern, Refusal> {
     // SAFETY: each pointer and its number of elements are those of a slice, and what is written is
     // borrowed mutably, so it overlaps nothing else.
@@ -158,7 +159,7 @@ pub fn prepare(bytes: &[u8], scratch: &mut [u16]) -> Result<Pattern, Refusal> {
 /// # Errors
 ///
 /// Refused, in this order, with the list unchanged: a pattern that is not what preparation gives
-/// for its own length and bytes (4), a text of more than 16,777,216 bytes (5).
+/// for its own length and bytes (4), a text of more than [`LONGEST_TEXT`] bytes (5).
 pub fn colussi(
     pattern: &Pattern,
     text: &[u8],

@@ -19,7 +19,7 @@ unless true why then = then
 unless false why then = Refused why
 
 -- Tests 4 and 5, in that order, of whether a pattern is prepared and a text of n bytes: the first that fails is the answer, by its number in
--- the table.
+-- document 01's table (`numberOf`).
 unfoldable pub judged : Bool → ℕ → Admission
 judged prepared n = unless prepared FalsePattern (unless (leb n longestText) LongText Admitted)
 

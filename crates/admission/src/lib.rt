@@ -15,7 +15,7 @@ pub enum Admission {
 }
 
 // Whether a pattern may be searched for in a text of n bytes, by whether `is_prepared` finds it prepared. Refused, in this order: a pattern that is
-// not (4), a text of more than 16,777,216 bytes (5).
+// not (4), a text of more than LONGEST_TEXT bytes (5).
 pub fn admit(prepared: bool, n: usize) -> Admission
     ensures answer { λ r. ⌜ r ≡ judged prepared n ⌝ }
     ensures meaning { λ r. ⌜ ((r ≡ Admission.Admitted) ↔ ((prepared ≡ true) × (n ≤ longestText))) ⌝ }

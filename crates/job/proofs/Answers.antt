@@ -12,6 +12,7 @@ use lib.Seq.{take-all}
 use borrow.Author.Tests.{eq-eqb, ne-eqb, lt-ltb, le-ltb}
 use Rattle.refusal.specs.declared.Refusal.the-variants.{NoPattern, LongText, ShortInput}
 use Rattle.rules.specs.Colussi.{colussi}
+use Rattle.job.specs.Limits.{bufferSize, listSize, longestText, noCap}
 use Rattle.job.specs.Printed.{refused-line, search-lines, printed}
 use Rattle.job.specs.Answer.{answerOf, bufferAfter}
 use Rattle.job.specs.Internal.Writing.{Puts}
@@ -50,18 +51,18 @@ module _ (input : List ℕ) (len : ℕ) (first : len ≡ getD input 0 0) where
       text-is =
           take-all (length input - (1 + len)) (drop (1 + len) input) (omega (arith, length-drop (1 + len) input)) ∙ rw (one-add, first) refl
 
-      pub long-text : 60000 < length (textIn input len) → printed input ≡ refused-line LongText
+      pub long-text : longestText < length (textIn input len) → printed input ≡ refused-line LongText
       unfolding printed
-      long-text l = rw (some-passes, whole-passes, lt-ltb 60000 (length (drop (suc (getD input 0 0)) input)) (rw text-is at l), printed) refl
+      long-text l = rw (some-passes, whole-passes, lt-ltb longestText (length (drop (suc (getD input 0 0)) input)) (rw text-is at l), printed) refl
 
-      module _ (short : length (textIn input len) ≤ 60000) where
+      module _ (short : length (textIn input len) ≤ longestText) where
         all-pass : printed input
-            ≡ search-lines (colussi (take (getD input 0 0) (drop 1 input)) (drop (suc (getD input 0 0)) input) 18446744073709551615 8192)
+            ≡ search-lines (colussi (take (getD input 0 0) (drop 1 input)) (drop (suc (getD input 0 0)) input) noCap listSize)
         unfolding printed
         all-pass =
-            rw (some-passes, whole-passes, le-ltb 60000 (length (drop (suc (getD input 0 0)) input)) (rw text-is at short), printed) refl
+            rw (some-passes, whole-passes, le-ltb longestText (length (drop (suc (getD input 0 0)) input)) (rw text-is at short), printed) refl
 
-        pub searches : printed input ≡ search-lines (colussi (patternIn input len) (textIn input len) 18446744073709551615 8192)
+        pub searches : printed input ≡ search-lines (colussi (patternIn input len) (textIn input len) noCap listSize)
         searches = rw (pattern-is, text-is) all-pass
 
 pub no-input : (input : List ℕ) → length input ≡ 0 → printed input ≡ refused-line NoPattern
@@ -70,18 +71,18 @@ no-input input e = no-pattern input 0 (sym (List·getD-eq-default input 0 (omega
 -- ---- The answer and the buffer
 
 module _ (input lent : List ℕ) where
-  pub short-buffer : length lent < 196608 → (ShortBuffer ≡ answerOf input (length lent)) × (lent ≡ bufferAfter input lent)
+  pub short-buffer : length lent < bufferSize → (ShortBuffer ≡ answerOf input (length lent)) × (lent ≡ bufferAfter input lent)
   unfolding answerOf bufferAfter
-  short-buffer l = (rw (lt-ltb (length lent) 196608 l, answerOf) refl, rw (lt-ltb (length lent) 196608 l, bufferAfter) refl)
+  short-buffer l = (rw (lt-ltb (length lent) bufferSize l, answerOf) refl, rw (lt-ltb (length lent) bufferSize l, bufferAfter) refl)
 
-  module _ (room : 196608 ≤ length lent) where
+  module _ (room : bufferSize ≤ length lent) where
     answer-wrote : answerOf input (length lent) ≡ Wrote (length (printed input))
     unfolding answerOf
-    answer-wrote = rw (le-ltb (length lent) 196608 room, answerOf) refl
+    answer-wrote = rw (le-ltb (length lent) bufferSize room, answerOf) refl
 
     buffer-printed : bufferAfter input lent ≡ printed input ++ drop (length (printed input)) lent
     unfolding bufferAfter
-    buffer-printed = rw (le-ltb (length lent) 196608 room, bufferAfter) refl
+    buffer-printed = rw (le-ltb (length lent) bufferSize room, bufferAfter) refl
 
     -- The bytes s were put at the buffer's start.
     pub wrote : {s after : List ℕ} {r : ℕ} → printed input ≡ s → Puts lent after 0 s r

@@ -8,6 +8,7 @@ use lib.Seq.{take-append-seam}
 use Rattle.admission.specs.Admitted.{longestText, admitted}
 use Rattle.admission.specs.declared.Admission.the-variants.{Admitted}
 use Rattle.admission.proofs.Admitting.{admitted-of}
+use Rattle.pattern.specs.Sizes.{longestPattern, scratchSize}
 use Rattle.pattern.specs.Check.{ownBytes}
 use Rattle.pattern.specs.Letters.{wordOf}
 use Rattle.pattern.specs.Prepared.{patternOf, prepared}
@@ -62,10 +63,10 @@ lines-of-found {s = s} F = rw (F .positions, F .report) (sym (lines-of-search s)
 
 -- ---- The search for bytes that were just prepared
 
-module _ (w t : List ℕ) (some : 1 ≤ length w) (short : length w ≤ 256) (fits : length t ≤ longestText)
-    {q : Prepared} (ready-made : q ≡ prepared w 771) (cap : ℕ) (lent : List ℕ) where
+module _ (w t : List ℕ) (some : 1 ≤ length w) (short : length w ≤ longestPattern) (fits : length t ≤ longestText)
+    {q : Prepared} (ready-made : q ≡ prepared w scratchSize) (cap : ℕ) (lent : List ℕ) where
   pattern-is : q .pattern ≡ patternOf w
-  pattern-is = ap (λ (a : Prepared). a .pattern) (ready-made ∙ ready-answer w 771 (ready w 771 some short (omega arith)))
+  pattern-is = ap (λ (a : Prepared). a .pattern) (ready-made ∙ ready-answer w scratchSize (ready w scratchSize some short (omega arith)))
 
   -- Its letters are the bytes.
   letters : wordOf (q .pattern) ≡ w

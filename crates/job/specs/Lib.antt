@@ -1,4 +1,5 @@
 -- What a reader must believe; Internal holds what only the functions within the crate promise each other.
+pub mod Limits
 pub mod Text
 pub mod Printed
 pub mod Answer

@@ -13,6 +13,7 @@ use Rattle.rules.specs.Colussi.{colussi}
 use Rattle.rules.specs.declared.Ending.{Ending}
 use Rattle.rules.specs.declared.Ending.the-variants.{Done, Spent, Full}
 use Rattle.charge.specs.Charged.{charged}
+use Rattle.job.specs.Limits.{longestText, noCap, listSize}
 use Rattle.job.specs.Text.{ascii, decimal}
 
 -- A word, a number in decimal and a newline.
@@ -47,7 +48,7 @@ unfolding report-lines
 search-lines s = report-lines (s .ending) (length (s .last .made)) (s .last .found)
 
 -- The input is one length byte L, L pattern bytes, and the text to the end; empty input has L = 0. Tests 1, 6 and 5, in that order; then the
--- search in Colussi's order, with the cap 2^64 - 1 and a list of 8,192 entries.
+-- search in Colussi's order, with the cap noCap and a list of listSize entries.
 unfoldable pub printed : List ℕ → List ℕ
 unfolding refused-line search-lines colussi
 printed input =
@@ -56,9 +57,9 @@ printed input =
       | true ↦ refused-line NoPattern
       | false ↦ elim (ltb (length input) (suc L)) [
         | true ↦ refused-line ShortInput
-        | false ↦ elim (ltb 60000 (length (drop (suc L) input))) [
+        | false ↦ elim (ltb longestText (length (drop (suc L) input))) [
           | true ↦ refused-line LongText
-          | false ↦ search-lines (colussi (take L (drop 1 input)) (drop (suc L) input) 18446744073709551615 8192)
+          | false ↦ search-lines (colussi (take L (drop 1 input)) (drop (suc L) input) noCap listSize)
         ]
       ]
     ]

@@ -2,15 +2,27 @@
 mod lines;
 mod text;
 
+use pattern::SCRATCH;
 use refusal::Refusal;
 use search::SearchAnswer;
 ghost use mathlib.Core.Path.{_≡_};
 ghost use Prim.Native.Nat.{_≤_};
 ghost use lib.ListN.{length};
+ghost use Rattle.pattern.specs.Sizes.{longestPattern};
 ghost use Rattle.rules.specs.Colussi.{colussi};
+ghost use Rattle.job.specs.Limits.{longestText, noCap, listSize, bufferSize};
 ghost use Rattle.job.specs.Printed.{search-lines};
 ghost use Rattle.job.specs.Answer.{answerOf, bufferAfter};
 ghost use Rattle.job.specs.Internal.Writing.{Puts};
+
+// The longest text, in bytes.
+pub const LONGEST_TEXT: usize = 60000;
+// The cap of the search, 2^64 - 1, and the entries of its list.
+const NO_CAP: u64 = 18446744073709551615;
+
+pub const LIST: usize = 8192;
+// The bytes of a buffer that has room for the longest output.
+pub const BUFFER: usize = 196608;
 
 // The number of bytes written, or that the buffer is too short for the longest output.
 pub enum JobAnswer {
@@ -18,28 +30,28 @@ pub enum JobAnswer {
     ShortBuffer,
 }
 
-// A pattern of 1 to 255 bytes in a text of at most 60,000: searched, and its report written.
+// A pattern that preparation takes, in a text of at most LONGEST_TEXT bytes: searched, and its report written.
 fn searched(bytes: &[u8], text: &[u8], out: &mut [u8]) -> usize
-    requires { ⌜ (1 ≤ length (now bytes)) × (length (now bytes) ≤ 256) × (length (now text) ≤ 60000) × (196608 ≤ length (now out)) ⌝ }
-    ensures { λ r. ⌜ Puts (now (out .entry)) (now (out .exit)) 0 (search-lines (colussi (now (bytes .entry)) (now (text .entry)) 18446744073709551615 8192)) r ⌝ }
+    requires { ⌜ (1 ≤ length (now bytes)) × (length (now bytes) ≤ longestPattern) × (length (now text) ≤ longestText) × (bufferSize ≤ length (now out)) ⌝ }
+    ensures { λ r. ⌜ Puts (now (out .entry)) (now (out .exit)) 0 (search-lines (colussi (now (bytes .entry)) (now (text .entry)) noCap listSize)) r ⌝ }
 {
-    let mut scratch = [0u16; 771];
+    let mut scratch = [0u16; SCRATCH];
     let prepared = pattern::prepare(bytes, &mut scratch);
-    let mut positions = [0u32; 8192];
-    let answer = search::colussi(prepared.pattern, text, 18446744073709551615, &mut positions);
+    let mut positions = [0u32; LIST];
+    let answer = search::colussi(prepared.pattern, text, NO_CAP, &mut positions);
     match answer {
         SearchAnswer::Ran(report) => lines::put_report(out, report, &positions),
         SearchAnswer::Refused(why) => lines::put_refused(out, why),
     }
 }
 
-// Writes what document 01 prints for the input at the start of the buffer, which needs 196,608 bytes; the rest of it is unchanged. A
+// Writes what document 01 prints for the input at the start of the buffer, which needs BUFFER bytes; the rest of it is unchanged. A
 // shorter buffer is unchanged.
 pub fn job(input: &[u8], out: &mut [u8]) -> JobAnswer
     ensures answer { λ r. ⌜ r ≡ answerOf (now (input .entry)) (length (now (out .entry))) ⌝ }
     ensures buffer { λ r. ⌜ now (out .exit) ≡ bufferAfter (now (input .entry)) (now (out .entry)) ⌝ }
 {
-    if out.len() < 196608 {
+    if out.len() < BUFFER {
         return JobAnswer::ShortBuffer;
     }
     if input.len() == 0 {
@@ -54,7 +66,7 @@ pub fn job(input: &[u8], out: &mut [u8]) -> JobAnswer
         return JobAnswer::Wrote(lines::put_refused(out, Refusal::ShortInput));
     }
     let rest = &input[end..];
-    if 60000 < rest.len() {
+    if LONGEST_TEXT < rest.len() {
         return JobAnswer::Wrote(lines::put_refused(out, Refusal::LongText));
     }
     JobAnswer::Wrote(searched(&input[1..end], rest, out))

@@ -7,6 +7,7 @@ use rules::Report;
 ghost use Prim.Native.Nat.{_+_, _*_, _≤_};
 ghost use mathlib.Core.List.{_++_};
 ghost use lib.ListN.{length, take};
+ghost use Rattle.job.specs.Limits.{listSize, bufferSize};
 ghost use Rattle.job.specs.Text.{ascii, decimal};
 ghost use Rattle.job.specs.Printed.{refused-line, ending-line, position-lines, report-lines};
 ghost use Rattle.job.specs.Internal.Writing.{Puts};
@@ -55,7 +56,7 @@ pub fn put_positions(out: &mut [u8], at: usize, positions: &[u32], written: usiz
 }
 
 pub fn put_report(out: &mut [u8], report: Report, positions: &[u32]) -> usize
-    requires { ⌜ (report .written ≤ length (now positions)) × (length (now positions) ≤ 8192) × (196608 ≤ length (now out)) ⌝ }
+    requires { ⌜ (report .written ≤ length (now positions)) × (length (now positions) ≤ listSize) × (bufferSize ≤ length (now out)) ⌝ }
     ensures { λ r. ⌜ Puts (now (out .entry)) (now (out .exit)) 0 (report-lines (report .ending) (report .count) (take (report .written) (now (positions .entry)))) r ⌝ }
 {
     let ending = report.ending;

@@ -1,6 +1,9 @@
 // The program's work at its limits: each input is answered, and the answer's first four lines are printed. What they must be is read off
 // document 01.
+use job::BUFFER;
 use job::JobAnswer;
+use job::LIST;
+use job::LONGEST_TEXT;
 use libc::STDOUT_FILENO;
 ghost use Prim.Native.Nat.{_≤_};
 ghost use lib.ListN.{length};
@@ -28,7 +31,7 @@ fn four_lines(text: &[u8]) -> usize
 }
 
 fn show(what: &[u8], input: &[u8]) {
-    let mut out = [0u8; 196608];
+    let mut out = [0u8; BUFFER];
     say(what);
     let JobAnswer::Wrote(n) = job::job(input, &mut out) else {
         say(b"the buffer is too short\n");
@@ -53,19 +56,22 @@ fn show_patterns() {
 
 // The pattern a, and a text of b.
 fn show_texts() {
-    let mut input = [b'b'; 60003];
+    let mut input = [b'b'; LONGEST_TEXT + 3];
     input[0] = 1;
     input[1] = b'a';
-    show(b"-- a text of 60,000 bytes\n", &input[0..60002]);
-    show(b"-- a text of 60,001 bytes\n", &input[0..60003]);
+    show(b"-- the longest text\n", &input[0..LONGEST_TEXT + 2]);
+    show(b"-- a text of one byte more\n", &input[0..LONGEST_TEXT + 3]);
 }
 
 // The pattern a, and a text of a.
 fn show_lists() {
-    let mut input = [b'a'; 8195];
+    let mut input = [b'a'; LIST + 3];
     input[0] = 1;
-    show(b"-- 8,192 positions\n", &input[0..8194]);
-    show(b"-- 8,193 positions\n", &input[0..8195]);
+    show(
+        b"-- as many positions as the list has entries\n",
+        &input[0..LIST + 2],
+    );
+    show(b"-- one position more\n", &input[0..LIST + 3]);
 }
 
 fn main() {

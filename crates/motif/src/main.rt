@@ -1,5 +1,7 @@
 // The program motif: reads standard input, does the job, and writes what it gives. Nothing that matters is here.
+use job::BUFFER;
 use job::JobAnswer;
+use job::LONGEST_TEXT;
 use libc::STDERR_FILENO;
 use libc::STDIN_FILENO;
 use libc::STDOUT_FILENO;
@@ -83,10 +85,12 @@ fn serve(input: &mut [u8], out: &mut [u8]) {
     answer(&input[0..n], out);
 }
 
-// The longest input that can be accepted has 60,256 bytes: a length byte, 255 of the pattern, 60,000 of the text. One more tells that it is
+// The longest input that can be accepted is a length byte, 255 bytes of the pattern and the longest text. One byte more tells that it is
 // longer.
+const INPUT: usize = 1 + 255 + LONGEST_TEXT + 1;
+
 fn main() {
-    let mut input = [0u8; 60257];
-    let mut out = [0u8; 196608];
+    let mut input = [0u8; INPUT];
+    let mut out = [0u8; BUFFER];
     serve(&mut input, &mut out);
 }

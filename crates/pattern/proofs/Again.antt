@@ -6,6 +6,7 @@ use mathlib.Core.List.{List}
 use native.Mathlib.Omega.{arith}
 use lib.ListN.{length, replicate}
 use lib.Seq.{take-append-seam}
+use Rattle.pattern.specs.Sizes.{longestPattern, scratchSize}
 use Rattle.pattern.specs.Lists.{padded}
 use Rattle.pattern.specs.Prepared.{patternOf}
 use Rattle.pattern.specs.Check.{ownBytes, isPrepared, IsPrepared, preparedAgain}
@@ -14,8 +15,8 @@ use Rattle.pattern.proofs.Checked.{is-prepared}
 
 pub own-bytes : (w : List ℕ) → ownBytes (patternOf w) ≡ w
 unfolding patternOf padded
-own-bytes w = take-append-seam w (replicate (256 - length w) 0)
+own-bytes w = take-append-seam w (replicate (longestPattern - length w) 0)
 
-pub prepared-again : (w : List ℕ) → 1 ≤ length w → length w ≤ 256 → isPrepared (patternOf w) ≡ true
+pub prepared-again : (w : List ℕ) → 1 ≤ length w → length w ≤ longestPattern → isPrepared (patternOf w) ≡ true
 unfolding IsPrepared preparedAgain
-prepared-again w some short = is-prepared (patternOf w) .1 (rw (own-bytes w) (ready-answer w 771 (ready w 771 some short (omega arith))))
+prepared-again w some short = is-prepared (patternOf w) .1 (rw (own-bytes w) (ready-answer w scratchSize (ready w scratchSize some short (omega arith))))

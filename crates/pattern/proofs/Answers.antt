@@ -9,6 +9,7 @@ use lib.Seq.{length-take-le}
 use borrow.Author.Tests.{eq-eqb, ne-eqb, lt-ltb, le-ltb}
 use Rattle.words.specs.Tables.{noholes}
 use Rattle.words.proofs.Cases.{less-or}
+use Rattle.pattern.specs.Sizes.{longestPattern, scratchSize}
 use Rattle.pattern.specs.Lists.{tabulate, padded}
 use Rattle.pattern.specs.Marks.{markWord}
 use Rattle.pattern.specs.Prepared.{patternOf, unprepared, outcomeOf, prepared, scratchAfter}
@@ -23,7 +24,7 @@ use Rattle.pattern.proofs.Ranked.{places-order}
 
 -- The pattern of w, field by field.
 pub fields : (w : List ℕ) {d : ℕ} {bytes orders shifts nexts marks : List ℕ}
-    → d ≡ noholes w → bytes ≡ padded 256 w → RankedAll w orders shifts nexts → marks ≡ tabulate 4 (markWord w)
+    → d ≡ noholes w → bytes ≡ padded longestPattern w → RankedAll w orders shifts nexts → marks ≡ tabulate 4 (markWord w)
     → _≡_ {A = Pattern}
     (record { len = length w; noholes = d; bytes = bytes; order = orders; shift = shifts; next = nexts; marks = marks })
     (patternOf w)
@@ -37,24 +38,24 @@ module _ (w : List ℕ) (n : ℕ) where
   unfolding outcomeOf
   no-pattern e = rw (eq-eqb (length w) 0 e, outcomeOf) refl
 
-  pub long-pattern : 256 < length w → outcomeOf w n ≡ Refused LongPattern
+  pub long-pattern : longestPattern < length w → outcomeOf w n ≡ Refused LongPattern
   unfolding outcomeOf
-  long-pattern l = rw (ne-eqb (length w) 0 (λ e. omega arith), lt-ltb 256 (length w) l, outcomeOf) refl
+  long-pattern l = rw (ne-eqb (length w) 0 (λ e. omega arith), lt-ltb longestPattern (length w) l, outcomeOf) refl
 
-  module _ (some : 1 ≤ length w) (short : length w ≤ 256) where
-    pub short-scratch : n < 771 → outcomeOf w n ≡ Refused ShortScratch
+  module _ (some : 1 ≤ length w) (short : length w ≤ longestPattern) where
+    pub short-scratch : n < scratchSize → outcomeOf w n ≡ Refused ShortScratch
     unfolding outcomeOf
-    short-scratch l = rw (ne-eqb (length w) 0 (λ e. omega arith), le-ltb 256 (length w) short, lt-ltb n 771 l, outcomeOf) refl
+    short-scratch l = rw (ne-eqb (length w) 0 (λ e. omega arith), le-ltb longestPattern (length w) short, lt-ltb n scratchSize l, outcomeOf) refl
 
-    pub ready : 771 ≤ n → outcomeOf w n ≡ Ready
+    pub ready : scratchSize ≤ n → outcomeOf w n ≡ Ready
     unfolding outcomeOf
-    ready l = rw (ne-eqb (length w) 0 (λ e. omega arith), le-ltb 256 (length w) short, le-ltb n 771 l, outcomeOf) refl
+    ready l = rw (ne-eqb (length w) 0 (λ e. omega arith), le-ltb longestPattern (length w) short, le-ltb n scratchSize l, outcomeOf) refl
 
   -- A pattern that was not refused has a length that passes.
-  pub ready-sizes : outcomeOf w n ≡ Ready → (1 ≤ length w) × (length w ≤ 256)
+  pub ready-sizes : outcomeOf w n ≡ Ready → (1 ≤ length w) × (length w ≤ longestPattern)
   ready-sizes e = (
     ⊎-elim (λ (a : 0 < length w). a) (λ (a : length w ≤ 0). absurd (not-ready (no-pattern (omega arith)) e)) (less-or 0 (length w)),
-    ⊎-elim (λ (a : 256 < length w). absurd (not-ready (long-pattern a) e)) (λ (a : length w ≤ 256). a) (less-or 256 (length w)),
+    ⊎-elim (λ (a : longestPattern < length w). absurd (not-ready (long-pattern a) e)) (λ (a : length w ≤ longestPattern). a) (less-or longestPattern (length w)),
   )
     where
       not-ready : {why : Refusal} → outcomeOf w n ≡ Refused why → outcomeOf w n ≡ Ready → ⊥
@@ -81,7 +82,7 @@ module _ (w s : List ℕ) where
 
   -- Success: the first part of t, what the scratch then holds, was filled with zeros, and the rest is as it was.
   pub success : {p : Pattern} {part : List ℕ} (t : List ℕ)
-      → outcomeOf w (length s) ≡ Ready → p ≡ patternOf w → 771 ≤ length t → part ≡ replicate (length (take 771 t)) 0 → RestKept s t
-      → (record { outcome = Ready; pattern = p } ≡ prepared w (length s)) × (part ++ drop 771 t ≡ scratchAfter w s)
+      → outcomeOf w (length s) ≡ Ready → p ≡ patternOf w → scratchSize ≤ length t → part ≡ replicate (length (take scratchSize t)) 0 → RestKept s t
+      → (record { outcome = Ready; pattern = p } ≡ prepared w (length s)) × (part ++ drop scratchSize t ≡ scratchAfter w s)
   unfolding scratchAfter
-  success t e q l f k = (rw q (sym (ready-answer w (length s) e)), rw (e, f, length-take-le 771 t l, k, scratchAfter) refl)
+  success t e q l f k = (rw q (sym (ready-answer w (length s) e)), rw (e, f, length-take-le scratchSize t l, k, scratchAfter) refl)

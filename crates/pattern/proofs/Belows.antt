@@ -8,6 +8,7 @@ use lib.ListN.{length, set}
 use Rattle.words.specs.Tables.{kmin, below}
 use Rattle.words.proofs.Noholes.{kmin-nohole, kmin-hole}
 use Rattle.words.proofs.Ranks.{below-nohole, below-hole}
+use Rattle.pattern.specs.Sizes.{belowsAt}
 use Rattle.pattern.specs.Internal.Scratch.{Sizes, HasHmax, HasKmin, HasBelow}
 use Rattle.pattern.proofs.Stores.{KeptRest, after-store, kept-store, hmax-kept, kmin-kept}
 
@@ -31,12 +32,12 @@ pub record Counted (w before s : List ℕ) (n : ℕ) : Type 0 where
 -- The store of one count more.
 pub counted-store :
     (w before s : List ℕ) (n p v : ℕ) → n ≡ p → Sizes w before → p ≤ length w → v ≡ below w n
-    → Counted w before s n → Counted w before (set s (514 + p) v) (p + 1)
+    → Counted w before s n → Counted w before (set s (belowsAt + p) v) (p + 1)
 counted-store w before s n p v at S l e C = record {
-  hmaxes = hmax-kept s (514 + p) v w (length w + 1) (omega arith) (C .hmaxes);
-  kmins = kmin-kept s (514 + p) v w (omega arith) (C .kmins);
-  belows = λ q h. after-store s (514 + p) v (λ x. x ≡ below w q) (514 + q) (omega arith)
+  hmaxes = hmax-kept s (belowsAt + p) v w (length w + 1) (omega arith) (C .hmaxes);
+  kmins = kmin-kept s (belowsAt + p) v w (omega arith) (C .kmins);
+  belows = λ q h. after-store s (belowsAt + p) v (λ x. x ≡ below w q) (belowsAt + q) (omega arith)
       (λ same. let here : n ≡ q = omega arith in e ∙ ap (below w) here)
       (λ other. C .belows q (omega arith));
-  kept = kept-store s (514 + p) v (omega arith) (C .kept);
+  kept = kept-store s (belowsAt + p) v (omega arith) (C .kept);
 }

@@ -3,6 +3,7 @@ use mathlib.Core.Path.{_≡_, refl, sym, ap, _∙_}
 use mathlib.Core.Logic.{_↔_}
 use mathlib.Core.Bool.{Bool, true, false}
 use Rattle.words.proofs.Cases.{not-both}
+use Rattle.pattern.specs.Sizes.{scratchSize}
 use Rattle.pattern.specs.Prepared.{prepared}
 use Rattle.pattern.specs.Check.{ownBytes, samePattern, preparedAgain, isPrepared, IsPrepared}
 use Rattle.pattern.specs.declared.Pattern.{Pattern}
@@ -35,6 +36,6 @@ module _ (p : Pattern) where
   is-prepared = matches-iff p (preparedAgain p)
 
   -- What `is_prepared` ensures of its answer r, where preparation answered a to the pattern's own bytes.
-  pub tested : {a : Prepared} {r : Bool} → a ≡ prepared (ownBytes p) 771 → r ≡ matches p a → (r ≡ isPrepared p) × ((r ≡ true) ↔ IsPrepared p)
+  pub tested : {a : Prepared} {r : Bool} → a ≡ prepared (ownBytes p) scratchSize → r ≡ matches p a → (r ≡ isPrepared p) × ((r ≡ true) ↔ IsPrepared p)
   unfolding isPrepared
   tested {a} {r} again e = let test : r ≡ isPrepared p = e ∙ ap (matches p) again in (test, rw test is-prepared)

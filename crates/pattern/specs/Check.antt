@@ -5,6 +5,7 @@ use mathlib.Core.Bool.{Bool, true, false, _&&_}
 use mathlib.Core.List.{List, [], _∷_}
 use lib.Dec.{eqb}
 use lib.ListN.{take}
+use Rattle.pattern.specs.Sizes.{scratchSize}
 use Rattle.pattern.specs.Prepared.{prepared}
 use Rattle.pattern.specs.declared.Pattern.{Pattern}
 use Rattle.pattern.specs.declared.Outcome.{Outcome}
@@ -33,7 +34,7 @@ ownBytes p = take (p .len) (p .bytes)
 -- differs from p in its length.)
 unfoldable pub preparedAgain : Pattern → Prepared
 unfolding prepared
-preparedAgain p = prepared (ownBytes p) 771
+preparedAgain p = prepared (ownBytes p) scratchSize
 
 -- As a test: it is not refused, and no field differs.
 unfoldable pub isPrepared : Pattern → Bool

@@ -1,4 +1,5 @@
 -- What a reader must believe; Internal holds what only the functions within the crate promise each other.
+pub mod Sizes
 pub mod Lists
 pub mod Marks
 pub mod Prepared

@@ -5,6 +5,7 @@ use mathlib.Core.List.{List, _++_}
 use lib.Dec.{eqb, ltb}
 use lib.ListN.{length, drop, replicate}
 use Rattle.words.specs.Tables as words
+use Rattle.pattern.specs.Sizes.{longestPattern, ranks, scratchSize}
 use Rattle.pattern.specs.Lists.{tabulate, padded}
 use Rattle.pattern.specs.Marks.{markWord}
 use Rattle.pattern.specs.declared.Pattern.{Pattern}
@@ -20,10 +21,10 @@ unfolding tabulate padded markWord words.noholes words.order words.shift words.n
 patternOf w = record {
   len = length w;
   noholes = words.noholes w;
-  bytes = padded 256 w;
-  order = padded 256 (words.order w);
-  shift = padded 257 (tabulate (suc (length w)) (words.shift w));
-  next = padded 257 (tabulate (suc (length w)) (words.next w));
+  bytes = padded longestPattern w;
+  order = padded longestPattern (words.order w);
+  shift = padded ranks (tabulate (suc (length w)) (words.shift w));
+  next = padded ranks (tabulate (suc (length w)) (words.next w));
   marks = tabulate 4 (markWord w);
 }
 
@@ -32,10 +33,10 @@ unfoldable pub zeroPattern : Pattern
 zeroPattern = record {
   len = 0;
   noholes = 0;
-  bytes = replicate 256 0;
-  order = replicate 256 0;
-  shift = replicate 257 0;
-  next = replicate 257 0;
+  bytes = replicate longestPattern 0;
+  order = replicate longestPattern 0;
+  shift = replicate ranks 0;
+  next = replicate ranks 0;
   marks = replicate 4 0;
 }
 
@@ -43,13 +44,14 @@ unfoldable pub unprepared : Refusal → Prepared
 unfolding zeroPattern
 unprepared why = record { outcome = Refused why; pattern = zeroPattern }
 
--- Tests 1, 2 and 3, in that order, of the bytes w and a scratch of n numbers: the first that holds is the answer.
+-- Tests 1, 2 and 3, in that order, of the bytes w and a scratch of n numbers: the first that holds is the answer, by its number in document
+-- 01's table (`numberOf`).
 unfoldable pub outcomeOf : List ℕ → ℕ → Outcome
 outcomeOf w n = elim (eqb (length w) 0) [
   | true ↦ Refused NoPattern
-  | false ↦ elim (ltb 256 (length w)) [
+  | false ↦ elim (ltb longestPattern (length w)) [
     | true ↦ Refused LongPattern
-    | false ↦ elim (ltb n 771) [ true ↦ Refused ShortScratch | false ↦ Ready ]
+    | false ↦ elim (ltb n scratchSize) [ true ↦ Refused ShortScratch | false ↦ Ready ]
   ]
 ]
 
@@ -61,7 +63,7 @@ prepared w n = elim (outcomeOf w n) [
   | Refused why ↦ unprepared why
 ]
 
--- What a scratch then holds: zeros in its first 771 numbers after success, and what was lent after a refusal.
+-- What a scratch then holds: zeros in its first scratchSize numbers after success, and what was lent after a refusal.
 unfoldable pub scratchAfter : List ℕ → List ℕ → List ℕ
 unfolding outcomeOf
-scratchAfter w s = elim (outcomeOf w (length s)) [ Ready ↦ replicate 771 0 ++ drop 771 s | Refused why ↦ s ]
+scratchAfter w s = elim (outcomeOf w (length s)) [ Ready ↦ replicate scratchSize 0 ++ drop scratchSize s | Refused why ↦ s ]

@@ -6,6 +6,9 @@ use super::hmax::fill_hmax;
 use super::kmin::fill_kmin;
 use super::marks::mark_words;
 use super::ranks::rank_places;
+use super::sizes::BELOWS;
+use super::sizes::LONGEST_PATTERN;
+use super::sizes::RANKS;
 ghost use mathlib.Core.Path.{_≡_};
 ghost use Prim.Native.Nat.{_≤_};
 ghost use lib.ListN.{length};
@@ -13,11 +16,11 @@ ghost use Rattle.pattern.specs.Lists.{padded};
 ghost use Rattle.pattern.specs.Prepared.{patternOf};
 ghost use Rattle.pattern.specs.Internal.Scratch.{Sizes, HasTables, RestKept};
 
-pub fn copied(bytes: &[u8]) -> [u8; 256]
+pub fn copied(bytes: &[u8]) -> [u8; LONGEST_PATTERN]
     requires { ⌜ length (now bytes) ≤ 256 ⌝ }
     ensures { λ r. ⌜ r ≡ padded 256 (now (bytes .entry)) ⌝ }
 {
-    let mut out = [0u8; 256];
+    let mut out = [0u8; LONGEST_PATTERN];
     let mut i: usize = 0;
     while i < bytes.len() {
         out[i] = bytes[i];
@@ -31,11 +34,11 @@ pub fn read_off(bytes: &[u8], scratch: &[u16]) -> Pattern
     requires { ⌜ HasTables (now bytes) (now scratch) ⌝ }
     ensures { λ r. ⌜ r ≡ patternOf (now (bytes .entry)) ⌝ }
 {
-    let mut order = [0u8; 256];
-    let mut shift = [0u16; 257];
-    let mut next = [0u16; 257];
+    let mut order = [0u8; LONGEST_PATTERN];
+    let mut shift = [0u16; RANKS];
+    let mut next = [0u16; RANKS];
     rank_places(bytes, scratch, &mut order, &mut shift, &mut next);
-    let noholes = wide(scratch[514 + bytes.len()]);
+    let noholes = wide(scratch[BELOWS + bytes.len()]);
     let marks = mark_words(bytes, scratch);
     let whole = copied(bytes);
     Pattern {

@@ -2,9 +2,11 @@
 use super::Pattern;
 use super::Prepared;
 use super::prepare;
+use super::sizes::SCRATCH;
 ghost use mathlib.Core.Path.{_≡_};
 ghost use Prim.Native.Nat.{min};
 ghost use lib.ListN.{length, take};
+ghost use Rattle.pattern.specs.Sizes.{scratchSize};
 ghost use Rattle.pattern.specs.Prepared.{prepared};
 ghost use Rattle.pattern.specs.Check.{sameList, samePattern};
 
@@ -17,9 +19,9 @@ fn least(a: usize, b: usize) -> usize
 
 // What preparation answers to the first len bytes, in a scratch of its own.
 pub fn prepared_again(bytes: &[u8], len: usize) -> Prepared
-    ensures { λ r. ⌜ r ≡ prepared (take len (now (bytes .entry))) 771 ⌝ }
+    ensures { λ r. ⌜ r ≡ prepared (take len (now (bytes .entry))) scratchSize ⌝ }
 {
-    let mut scratch = [0u16; 771];
+    let mut scratch = [0u16; SCRATCH];
     let taken = least(len, bytes.len());
     prepare(&bytes[..taken], &mut scratch)
 }

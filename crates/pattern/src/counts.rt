@@ -1,5 +1,7 @@
-// below(p) for every place p, at entry 514 + p of the scratch: document 01's table of 257 running counts.
+// below(p) for every place p, in the scratch: document 01's table of running counts, of which m + 1 are filled.
 use super::entries::wide;
+use super::sizes::BELOWS;
+use super::sizes::KMINS;
 ghost use Prim.Native.Nat.{_+_};
 ghost use lib.ListN.{length};
 ghost use Rattle.pattern.specs.Internal.Scratch.{Sizes, HasHmax, HasKmin, FillsBelow};
@@ -14,12 +16,12 @@ pub fn fill_below(bytes: &[u8], scratch: &mut [u16])
     let mut p: usize = 0;
     let mut count: usize = 0;
     while p < m {
-        scratch[514 + p] = count as u16;
-        let k = wide(scratch[257 + p]);
+        scratch[BELOWS + p] = count as u16;
+        let k = wide(scratch[KMINS + p]);
         p += 1;
         if k <= m {
             count += 1;
         }
     }
-    scratch[514 + m] = count as u16;
+    scratch[BELOWS + m] = count as u16;
 }

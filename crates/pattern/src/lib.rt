@@ -7,8 +7,12 @@ mod hmax;
 mod kmin;
 mod marks;
 mod ranks;
+mod sizes;
 
 pub use refusal::Refusal;
+pub use sizes::LONGEST_PATTERN;
+pub use sizes::RANKS;
+pub use sizes::SCRATCH;
 ghost use mathlib.Core.Path.{_≡_};
 ghost use mathlib.Core.Bool.{true};
 ghost use mathlib.Core.Logic.{_↔_};
@@ -24,12 +28,12 @@ pub struct Pattern {
     // d
     pub noholes: usize,
     // m bytes
-    pub bytes: [u8; 256],
+    pub bytes: [u8; LONGEST_PATTERN],
     // the place of each rank: m entries
-    pub order: [u8; 256],
+    pub order: [u8; LONGEST_PATTERN],
     // of each rank, and of rank m: m + 1 entries each
-    pub shift: [u16; 257],
-    pub next: [u16; 257],
+    pub shift: [u16; RANKS],
+    pub next: [u16; RANKS],
     // the nohole marks: place p at bit p mod 64 of word p div 64
     pub marks: [u64; 4],
 }
@@ -51,10 +55,10 @@ fn refused(why: Refusal) -> Prepared
     let pattern = Pattern {
         len: 0,
         noholes: 0,
-        bytes: [0u8; 256],
-        order: [0u8; 256],
-        shift: [0u16; 257],
-        next: [0u16; 257],
+        bytes: [0u8; LONGEST_PATTERN],
+        order: [0u8; LONGEST_PATTERN],
+        shift: [0u16; RANKS],
+        next: [0u16; RANKS],
         marks: [0u64; 4],
     };
     Prepared {
@@ -63,8 +67,8 @@ fn refused(why: Refusal) -> Prepared
     }
 }
 
-// Prepares a pattern for search. Refused, in this order: no byte (1), more than 256 bytes (2), a scratch of fewer than 771
-// numbers (3). On success the first 771 numbers of the scratch are 0 and the rest unchanged; on a refusal it is unchanged.
+// Prepares a pattern for search. Refused, in this order: no byte (1), more than LONGEST_PATTERN bytes (2), a scratch of fewer than
+// SCRATCH numbers (3). On success the first SCRATCH numbers are 0 and the rest unchanged; on a refusal all are unchanged.
 pub fn prepare(bytes: &[u8], scratch: &mut [u16]) -> Prepared
     ensures answer { λ r. ⌜ r ≡ prepared (now (bytes .entry)) (length (now (scratch .entry))) ⌝ }
     ensures scratched { λ r. ⌜ now (scratch .exit) ≡ scratchAfter (now (bytes .entry)) (now (scratch .entry)) ⌝ }
@@ -72,14 +76,14 @@ pub fn prepare(bytes: &[u8], scratch: &mut [u16]) -> Prepared
     if bytes.len() == 0 {
         return refused(Refusal::NoPattern);
     }
-    if 256 < bytes.len() {
+    if LONGEST_PATTERN < bytes.len() {
         return refused(Refusal::LongPattern);
     }
-    if scratch.len() < 771 {
+    if scratch.len() < SCRATCH {
         return refused(Refusal::ShortScratch);
     }
     let pattern = build::build(bytes, scratch);
-    entries::fill(&mut scratch[..771], 0);
+    entries::fill(&mut scratch[..SCRATCH], 0);
     Prepared {
         outcome: Outcome::Ready,
         pattern,

@@ -1,5 +1,9 @@
 // The tables by rank: order, shift and next.
 use super::entries::wide;
+use super::sizes::BELOWS;
+use super::sizes::KMINS;
+use super::sizes::LONGEST_PATTERN;
+use super::sizes::RANKS;
 ghost use mathlib.Core.Path.{_≡_};
 ghost use mathlib.Core.Bool.{cond};
 ghost use Prim.Native.Nat.{_-_, _<_};
@@ -35,9 +39,9 @@ fn choose(test: bool, yes: usize, no: usize) -> usize
 pub fn rank_places(
     bytes: &[u8],
     scratch: &[u16],
-    order: &mut [u8; 256],
-    shift: &mut [u16; 257],
-    next: &mut [u16; 257],
+    order: &mut [u8; LONGEST_PATTERN],
+    shift: &mut [u16; RANKS],
+    next: &mut [u16; RANKS],
 )
     requires { ⌜ Sizes (now bytes) (now scratch) ⌝ }
     requires { ⌜ HasTables (now bytes) (now scratch) ⌝ }
@@ -52,16 +56,16 @@ pub fn rank_places(
         let r = above;
         above = period_from(bytes, scratch, p, r);
         left = p;
-        let k = wide(scratch[257 + p]);
-        let below = wide(scratch[514 + p]);
+        let k = wide(scratch[KMINS + p]);
+        let below = wide(scratch[BELOWS + p]);
         let nohole = k <= m;
         let i = choose(nohole, below, m - 1 - p + below);
         let s = choose(nohole, k, r);
         let from = choose(nohole, p, m);
         order[i] = p as u8;
         shift[i] = s as u16;
-        next[i] = scratch[514 + (from - s)];
+        next[i] = scratch[BELOWS + (from - s)];
     }
     shift[m] = above as u16;
-    next[m] = scratch[514 + (m - above)];
+    next[m] = scratch[BELOWS + (m - above)];
 }

@@ -1,13 +1,19 @@
-// The refusals of document 01, "Turned away": a variant for each row of its table.
+// The refusals of document 01, "Turned away": a variant for each row of its table, with the trade's word for it.
 ghost use mathlib.Core.Path.{_≡_};
 ghost use Rattle.refusal.specs.Numbers.{numberOf};
 
 pub enum Refusal {
+    // no motif
     NoPattern,
+    // long motif
     LongPattern,
+    // short bench
     ShortScratch,
+    // false card
     FalsePattern,
+    // long record
     LongText,
+    // short order
     ShortInput,
 }
 

@@ -140,11 +140,13 @@ module _ (bytes order : List ℕ) (m d : ℕ) (T : LentOrder bytes order m d) wh
         unfolding colussi
         scan-full l = scans-full _ _ text cap before R F inside occurs l
 
+        -- The window is stored, as v.
         pub scan-listed : (k ≡ length after → ⊥) → {shifts nexts : List ℕ} → LentMoves bytes shifts nexts m
-            → {b' i' : ℕ} → b' ≡ b + getD shifts m 0 → i' ≡ getD nexts m 0
-            → Scans (colussi-plan (take m bytes)) (take m bytes) text cap before (set after k b) b' i' (b + m) c (k + 1)
-        scan-listed l M at-b at-i =
+            → {v b' i' : ℕ} → v ≡ b → b' ≡ b + getD shifts m 0 → i' ≡ getD nexts m 0
+            → Scans (colussi-plan (take m bytes)) (take m bytes) text cap before (set after k v) b' i' (b + m) c (k + 1)
+        scan-listed l M is at-b at-i =
             rw (
+              is,
               at-b ∙ ap (λ s. b + s) (M .shift-at m (omega arith) ∙ ap (shift (take m bytes)) (sym word)),
               at-i ∙ M .next-at m (omega arith) ∙ ap (next (take m bytes)) (sym word),
             ) (rw edge at left)

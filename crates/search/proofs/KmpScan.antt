@@ -13,6 +13,7 @@ use Rattle.words.proofs.Cases.{less-or, true-or-false}
 use Rattle.words.proofs.Noholes.{zero-hole}
 use Rattle.words.proofs.Ranks.{NoholeRank, nohole-rank, place-rank, nohole-early}
 use Rattle.words.proofs.Shifts.{shift-nohole, shift-last}
+use Rattle.pattern.specs.Sizes.{ranks}
 use Rattle.pattern.proofs.Stores.{after-store}
 use Rattle.rules.specs.Rules.{edge-after}
 use Rattle.rules.specs.Kmp.{kmp-shift, kmp-plan, kmp}
@@ -29,7 +30,7 @@ use Rattle.search.proofs.RankZero.{ByOne, scans-ahead}
 -- ---- The table of shifts
 
 -- The entry of one place more.
-pub hole-store : (s : List ℕ) (p : ℕ) → p < 257 → HoleShifts p s → HoleShifts (p + 1) (set s p (p + 1))
+pub hole-store : (s : List ℕ) (p : ℕ) → p < ranks → HoleShifts p s → HoleShifts (p + 1) (set s p (p + 1))
 hole-store s p l H = record {
   size = length-set s p (p + 1) ∙ H .size;
   shift-at = λ q g. after-store s p (p + 1) (λ x. x ≡ suc q) q (omega (arith, H .size)) (λ same. omega arith) (λ other. H .shift-at q (omega arith));
@@ -37,7 +38,7 @@ hole-store s p l H = record {
 
 -- The shifts of the holes, and of the noholes of the ranks below i, stand at their places.
 pub record ShiftsBelow (w shifts : List ℕ) (i : ℕ) : Type 0 where
-  pub size : length shifts ≡ 257
+  pub size : length shifts ≡ ranks
   pub shift-at : (p : ℕ) → p < length w → (nohole w p ≡ true → rank w p < i) → getD shifts p 0 ≡ kmp-shift w p
 
 module _ (w s : List ℕ) where
@@ -162,7 +163,8 @@ module _ (bytes shifts : List ℕ) (m : ℕ) (sizes : (1 ≤ m) × (m ≤ 256) �
         unfolding kmp
         scan-full l = scans-full _ _ text cap before R F inside (inl (omega (arith, word))) l
 
-        pub scan-listed : (k ≡ length after → ⊥) → (s : ℕ) → s ≡ getD shifts m 0
-            → Scans (kmp-plan (take m bytes)) (take m bytes) text cap before (set after k b) (b + s) (m - s) 0 c (k + 1)
-        scan-listed l s read = left-by (set after k b) (length (take m bytes)) m s c (k + 1) (omega arith) (sym word) read
-            (scans-listed _ _ text cap before R F inside (inl (omega (arith, word))) l)
+        -- The window is stored, as v.
+        pub scan-listed : (k ≡ length after → ⊥) → {v : ℕ} → v ≡ b → (s : ℕ) → s ≡ getD shifts m 0
+            → Scans (kmp-plan (take m bytes)) (take m bytes) text cap before (set after k v) (b + s) (m - s) 0 c (k + 1)
+        scan-listed l is s read = rw is (left-by (set after k b) (length (take m bytes)) m s c (k + 1) (omega arith) (sym word) read
+            (scans-listed _ _ text cap before R F inside (inl (omega (arith, word))) l))

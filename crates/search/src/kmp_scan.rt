@@ -5,21 +5,23 @@ use super::entries::wide8;
 use super::entries::wide16;
 use super::letters::agree;
 use super::rank_zero::ahead;
+use pattern::RANKS;
 use rules::Ending;
 use rules::Report;
 ghost use mathlib.Core.Path.{_≡_};
 ghost use Prim.Native.Nat.{_-_, _^_, _≤_, _<_};
 ghost use lib.ListN.{length, take};
+ghost use Rattle.pattern.specs.Sizes.{longestPattern};
 ghost use Rattle.rules.specs.Kmp.{kmp};
 ghost use Rattle.rules.specs.Report.{Reported};
 ghost use Rattle.search.specs.Internal.KmpScan.{HoleShifts, KmpShifts, ShiftsOf};
 
 // The shifts of holes: p + 1 at each place p below m, and 0 from m on.
-pub fn hole_shifts(m: usize) -> [u16; 257]
-    requires { ⌜ m ≤ 256 ⌝ }
+pub fn hole_shifts(m: usize) -> [u16; RANKS]
+    requires { ⌜ m ≤ longestPattern ⌝ }
     ensures { λ r. ⌜ HoleShifts m r ⌝ }
 {
-    let mut shifts = [0u16; 257];
+    let mut shifts = [0u16; RANKS];
     let mut p: usize = 0;
     while p < m {
         shifts[p] = (p + 1) as u16;
@@ -29,8 +31,8 @@ pub fn hole_shifts(m: usize) -> [u16; 257]
 }
 
 // The shift at each matched length, from the tables by rank: those of the noholes and of an occurrence are stored there.
-pub fn shifts_by_place<'a>(order: &'a [u8], shift: &'a [u16], m: usize, d: usize) -> [u16; 257]
-    requires { ⌜ (d ≤ m) × (m ≤ 256) × (m ≤ length (now order)) × (m < length (now shift)) ⌝ }
+pub fn shifts_by_place<'a>(order: &'a [u8], shift: &'a [u16], m: usize, d: usize) -> [u16; RANKS]
+    requires { ⌜ (d ≤ m) × (m ≤ longestPattern) × (m ≤ length (now order)) × (m < length (now shift)) ⌝ }
     ensures { λ r. ⌜ ShiftsOf (now (order .entry)) (now (shift .entry)) m d r ⌝ }
 {
     let mut shifts = hole_shifts(m);
@@ -54,13 +56,13 @@ pub fn minus(i: usize, s: usize) -> usize
 // The whole text.
 pub fn scan(
     bytes: &[u8],
-    shifts: [u16; 257],
+    shifts: [u16; RANKS],
     m: usize,
     text: &[u8],
     cap: u64,
     positions: &mut [u32],
 ) -> Report
-    requires { ⌜ (1 ≤ m) × (m ≤ 256) × (m ≤ length (now bytes)) ⌝ }
+    requires { ⌜ (1 ≤ m) × (m ≤ longestPattern) × (m ≤ length (now bytes)) ⌝ }
     requires { ⌜ KmpShifts (take m (now bytes)) shifts ⌝ }
     requires { ⌜ length (now text) < 2 ^ 32 ⌝ }
     ensures { λ r. ⌜ Reported (kmp (take m (now (bytes .entry))) (now (text .entry)) cap (length (now (positions .entry)))) (now (positions .entry)) (now (positions .exit)) r ⌝ }

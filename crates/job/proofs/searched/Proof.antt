@@ -7,6 +7,7 @@ use Rattle.rules.specs.Rules.{End}
 use Rattle.rules.specs.Colussi.{colussi}
 use Rattle.rules.specs.Report.{reportOf, filled}
 use Rattle.search.specs.declared.SearchAnswer.the-variants.{Ran}
+use Rattle.job.specs.Limits.{listSize, noCap}
 use Rattle.job.proofs.Searching.{Found, found, not-refused, lines-of-found, prepared-runs}
 use Rattle.job.proofs.searched.Statement.{statement}
 use Rattle.job.proofs.searched.Tie as tie
@@ -31,23 +32,23 @@ slice-aggregate-put-report c = search needs
 
 -- The search that the contract speaks of.
 abbrev search-of : tie.Start → End
-search-of c = colussi (c .args .bytes .now) (c .args .text .now) 18446744073709551615 8192
+search-of c = colussi (c .args .bytes .now) (c .args .text .now) noCap listSize
 
 -- What was answered, and what was left in the list.
 ran : (c : tie.After-colussi)
     → (let end = search-of (c .before .before .before .before .before .before .before .before) in
-    (c .colussi .result ≡ Ran (reportOf end)) × (c .colussi .last .1 .1 .1 .0 ≡ filled end (replicate 8192 0)))
+    (c .colussi .result ≡ Ran (reportOf end)) × (c .colussi .last .1 .1 .1 .0 ≡ filled end (replicate listSize 0)))
 ran c =
     let at-prepare = c .before .before .before in
     let entry = at-prepare .before .before .before .before .before in
     prepared-runs (entry .args .bytes .now) (entry .args .text .now) (entry .pre .0) (entry .pre .1) (omega (arith, entry .pre .2))
-    (at-prepare .prepare .ensures .0) 18446744073709551615 (replicate 8192 0) (c .colussi .ensures .0) (c .colussi .ensures .1 .0)
+    (at-prepare .prepare .ensures .0) noCap (replicate listSize 0) (c .colussi .ensures .0) (c .colussi .ensures .1 .0)
 
 found-here : (c : tie.After-answer)
     → (let at-colussi = c .before .before .before in
     Found (search-of (at-colussi .before .before .before .before .before .before .before .before))
     (c .answer .given .0 .0) (at-colussi .colussi .last .1 .1 .1 .0))
-found-here c = let R = ran (c .before .before .before) in found _ (R .0) (replicate 8192 0) (R .1) (c .answer .given .1)
+found-here c = let R = ran (c .before .before .before) in found _ (R .0) (replicate listSize 0) (R .1) (c .answer .given .1)
 
 put-report-requires : tie.Need-put-report-requires
 put-report-requires c κs = omega (arith, found-here (c .before .before .before) .inside)

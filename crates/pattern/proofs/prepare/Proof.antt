@@ -1,5 +1,5 @@
 -- `prepare` meets its contract: its tests are those of outcomeOf, in the same order, and after success the fill leaves zeros in the
--- first 771 numbers of the scratch. Assumes nothing.
+-- first scratchSize numbers of the scratch. Assumes nothing.
 use native.Mathlib.Omega.{arith}
 use lib.ListN.{length-take}
 use borrow.Author.Needs.{needs}

@@ -1,26 +1,27 @@
--- What the scratch holds between the steps of preparation: hmax(k) at entry k, kmin(p) at 257 + p, below(p) at 514 + p.
+-- What the scratch holds between the steps of preparation: hmax(k) at entry k, kmin(p) at kminsAt + p, below(p) at belowsAt + p.
 use Prim.Native.Nat.{ℕ, _+_, _*_, _≤_, _<_}
 use mathlib.Core.Path.{_≡_}
 use mathlib.Core.List.{List}
 use lib.ListN.{length, getD, drop}
 use Rattle.words.specs.Tables.{hmax, kmin, below}
+use Rattle.pattern.specs.Sizes.{belowsAt, kminsAt, longestPattern, scratchSize}
 
 -- Lengths that pass the tests.
 pub record Sizes (w s : List ℕ) : Type 0 where
   pub some : 1 ≤ length w
-  pub short : length w ≤ 256
-  pub room : 771 ≤ length s
+  pub short : length w ≤ longestPattern
+  pub room : scratchSize ≤ length s
 
 -- The entries of hmax below n.
 abbrev pub HasHmax : List ℕ → List ℕ → ℕ → Type 0
 HasHmax w s n = (k : ℕ) → 1 ≤ k → k < n → getD s k 0 ≡ hmax w k
 
 abbrev pub HasKmin : List ℕ → List ℕ → Type 0
-HasKmin w s = (p : ℕ) → p ≤ length w → getD s (257 + p) 0 ≡ kmin w p
+HasKmin w s = (p : ℕ) → p ≤ length w → getD s (kminsAt + p) 0 ≡ kmin w p
 
 -- The counts of the places below n.
 abbrev pub HasBelow : List ℕ → List ℕ → ℕ → Type 0
-HasBelow w s n = (p : ℕ) → p < n → getD s (514 + p) 0 ≡ below w p
+HasBelow w s n = (p : ℕ) → p < n → getD s (belowsAt + p) 0 ≡ below w p
 
 -- All three tables.
 pub record HasTables (w s : List ℕ) : Type 0 where
@@ -28,9 +29,9 @@ pub record HasTables (w s : List ℕ) : Type 0 where
   pub kmins : HasKmin w s
   pub belows : HasBelow w s (length w + 1)
 
--- Only the first 771 entries are changed.
+-- Only the first scratchSize entries are changed.
 abbrev pub RestKept : List ℕ → List ℕ → Type 0
-RestKept before after = drop 771 after ≡ drop 771 before
+RestKept before after = drop scratchSize after ≡ drop scratchSize before
 
 -- hmax(k) is found from a place on, each comparison but the last one place further.
 pub record ExtendsTo (w : List ℕ) (k from r compared : ℕ) : Type 0 where

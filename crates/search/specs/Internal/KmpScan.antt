@@ -4,16 +4,17 @@ use mathlib.Core.Path.{_≡_}
 use mathlib.Core.List.{List}
 use lib.ListN.{length, getD}
 use Rattle.words.specs.Tables.{noholes, place, shift}
+use Rattle.pattern.specs.Sizes.{ranks}
 use Rattle.rules.specs.Kmp.{kmp-shift}
 
 -- A table of the shifts of holes.
 pub record HoleShifts (m : ℕ) (shifts : List ℕ) : Type 0 where
-  pub size : length shifts ≡ 257
+  pub size : length shifts ≡ ranks
   pub shift-at : (p : ℕ) → p < m → getD shifts p 0 ≡ suc p
 
 -- A table of the shift at each matched length.
 pub record KmpShifts (w shifts : List ℕ) : Type 0 where
-  pub size : length shifts ≡ 257
+  pub size : length shifts ≡ ranks
   pub shift-at : (i : ℕ) → i ≤ length w → getD shifts i 0 ≡ kmp-shift w i
 
 -- The tables by rank of a pattern w.

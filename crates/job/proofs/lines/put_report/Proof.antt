@@ -6,6 +6,7 @@ use native.Mathlib.Omega.{arith}
 use lib.ListN.{length, take}
 use lib.Seq.{length-take-le}
 use borrow.Author.Needs.{needs}
+use Rattle.job.specs.Limits.{bufferSize}
 use Rattle.job.specs.Text.{ascii}
 use Rattle.job.specs.Printed.{line}
 use Rattle.job.proofs.Writing.{puts-more}
@@ -29,7 +30,7 @@ charge-requires : tie.Need-charge-requires
 charge-requires c κs = search needs
 
 -- Where the lines of the count, the charge and the places end, in a buffer of the same length.
-count-ends : (c : tie.After-put-line) → (c .put-line .result ≤ 61) × (196608 ≤ length (c .put-line .last .0))
+count-ends : (c : tie.After-put-line) → (c .put-line .result ≤ 61) × (bufferSize ≤ length (c .put-line .last .0))
 unfolding ascii
 count-ends c =
     let at-ending = c .before .before .before .before .before in
@@ -37,13 +38,13 @@ count-ends c =
     let P = c .put-line .ensures in
     omega (arith, line-ends (ascii "count ") (entry .args .report .count) P, at-ending .put-ending .ensures, entry .pre)
 
-charge-ends : (c : tie.After-put-line2) → (c .put-line2 .result ≤ 89) × (196608 ≤ length (c .put-line2 .last .0))
+charge-ends : (c : tie.After-put-line2) → (c .put-line2 .result ≤ 89) × (bufferSize ≤ length (c .put-line2 .last .0))
 unfolding ascii
 charge-ends c =
     let P = c .put-line2 .ensures in
     omega (arith, line-ends (ascii "charge ") (c .before .charge .result) P, count-ends (c .before .before .before .before .before .before))
 
-places-end : (c : tie.After-put-line3) → (c .put-line3 .result ≤ 117) × (196608 ≤ length (c .put-line3 .last .0))
+places-end : (c : tie.After-put-line3) → (c .put-line3 .result ≤ 117) × (bufferSize ≤ length (c .put-line3 .last .0))
 unfolding ascii
 places-end c =
     let at-charge = c .before .before .before .before .before in

@@ -7,6 +7,7 @@ use native.Mathlib.Omega.{arith}
 use lib.ListN.{length, set, length-set}
 use Rattle.words.specs.Tables.{kmin, below}
 use Rattle.words.proofs.Ranks.{below-le}
+use Rattle.pattern.specs.Sizes.{belowsAt}
 use Rattle.pattern.proofs.Stores.{kept-same}
 use Rattle.pattern.proofs.Belows.{count-nohole, count-hole, Counted, counted-store}
 use Rattle.pattern.proofs.counts.fill_below.Statement.{statement}
@@ -35,7 +36,7 @@ count-upto c = omega (arith, below-le (word c) (c .loop .p))
 
 -- The tables once the count of the place p is stored.
 stored : (c : tie.At-loop Inv-loop μ-loop) (p : ℕ) → c .loop .p ≡ p →
-    Counted (word c) (c .before .before .before .args .scratch .now) (set (c .loop .scratch) (514 + p) (c .loop .count)) (p + 1)
+    Counted (word c) (c .before .before .before .args .scratch .now) (set (c .loop .scratch) (belowsAt + p) (c .loop .count)) (p + 1)
 stored c p e =
     let inv = c .loop .inv in
     counted-store _ _ (c .loop .scratch) (c .loop .p) p (c .loop .count) e (c .before .before .before .pre .0) (omega arith) (inv .1) (inv .2)

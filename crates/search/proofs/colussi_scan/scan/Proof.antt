@@ -238,7 +238,7 @@ loop-again-5 c =
     let at-loop = in-loop .before in
     let E = entry at-loop in
     scan-listed _ _ _ _ (E .pre .0) (at-loop .loop .inv) (inside in-loop .1) (occurs (room .before)) (room .if7 .left)
-    (E .pre .1 .0) (ap (λ s. at-loop .loop .b + s) (c .before .before .wide16 .ensures .0)) (c .wide162 .ensures .0)
+    (E .pre .1 .0) (omega arith) (ap (λ s. at-loop .loop .b + s) (c .before .before .wide16 .ensures .0)) (c .wide162 .ensures .0)
 
 returns-4 : tie.Need-returns-4 Inv-loop μ-loop
 returns-4 c =

@@ -166,7 +166,7 @@ loop-again-4 c =
     let in-loop = occurs .before in
     let E = entry (in-loop .before) in
     rw (c .minus2 .ensures) (scan-listed _ _ _ (E .pre .0) (E .pre .1 .0) (in-loop .before .loop .inv) (inside in-loop .1) (occurs .if2 .left) (room .if6 .left)
-    _ (c .before .wide162 .ensures .0))
+    (omega arith) _ (c .before .wide162 .ensures .0))
 
 returns-4 : tie.Need-returns-4 Inv-loop μ-loop
 returns-4 c =

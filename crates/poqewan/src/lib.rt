@@ -15,7 +15,7 @@ ghost use Rattle.rules.specs.Colussi.{colussi};
 ghost use Rattle.rules.specs.Kmp.{kmp};
 ghost use Rattle.search.specs.Answer.{answerBy, listBy};
 ghost use Rattle.search.specs.Promise.{Located, UnderCeiling, UnderKmpCeiling, AsColussi};
-ghost use Rattle.exports.specs.Carried.{outcomeNumber, carriedPreparation, endingNumber, endingWindow, carriedReport, carried, reportIn};
+ghost use Rattle.poqewan.specs.Carried.{outcomeNumber, carriedPreparation, endingNumber, endingWindow, carriedReport, carried, reportIn};
 
 // The number of a refusal, or 0, and the pattern, which is all zero beside a refusal.
 #[repr(C)]
@@ -92,8 +92,8 @@ fn carry(answer: SearchAnswer) -> SearchReport
     }
 }
 
-// Prepares a pattern for search. Refused, in this order: no byte (1), more than 256 bytes (2), a scratch of fewer than 771 numbers (3). After success
-// the first 771 numbers of the scratch are 0 and the rest unchanged; after a refusal it is unchanged.
+// Prepares a pattern for search. Refused, in this order: no byte (1), more bytes than the longest pattern has (2), a scratch of too few
+// numbers (3). After success the scratch begins with that many zeros and the rest is unchanged; after a refusal all of it is.
 #[no_mangle]
 pub extern "C" fn poqewan_prepare(bytes: &[u8], scratch: &mut [u16]) -> Preparation
     ensures answer { λ r. ⌜ r ≡ carriedPreparation (prepared (now (bytes .entry)) (length (now (scratch .entry)))) ⌝ }
@@ -108,7 +108,7 @@ pub extern "C" fn poqewan_prepare(bytes: &[u8], scratch: &mut [u16]) -> Preparat
 
 // Searches a text in Colussi's order, with at most `cap` comparisons, and fills the list from its start with the positions where the pattern
 // occurs, overlaps included. The entries after them are unchanged. Refused, in this order, with the list unchanged: a pattern that is not
-// what preparation gives for its own length and bytes (4), a text of more than 16,777,216 bytes (5).
+// what preparation gives for its own length and bytes (4), a text that is longer than the longest (5).
 #[no_mangle]
 pub extern "C" fn poqewan_colussi(
     pattern: Pattern,

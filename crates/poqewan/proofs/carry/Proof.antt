@@ -1,8 +1,8 @@
--- `exports::carry` meets its contract: each arm carries its answer. Assumes nothing.
+-- `poqewan::carry` meets its contract: each arm carries its answer. Assumes nothing.
 use mathlib.Core.Path.{refl}
 use borrow.Author.Needs.{needs}
-use Rattle.exports.proofs.carry.Statement.{statement}
-use Rattle.exports.proofs.carry.Tie as tie
+use Rattle.poqewan.proofs.carry.Statement.{statement}
+use Rattle.poqewan.proofs.carry.Tie as tie
 
 enum-known-answer : tie.Need-enum-known-answer
 enum-known-answer c = search needs

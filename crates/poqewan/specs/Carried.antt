@@ -10,8 +10,8 @@ use Rattle.rules.specs.declared.Report.{Report}
 use Rattle.search.specs.declared.SearchAnswer.{SearchAnswer}
 use Rattle.search.specs.declared.SearchAnswer.the-variants.{Ran}
 use Rattle.search.specs.declared.SearchAnswer.the-variants as answers
-use Rattle.exports.specs.declared.Preparation.{Preparation}
-use Rattle.exports.specs.declared.SearchReport.{SearchReport}
+use Rattle.poqewan.specs.declared.Preparation.{Preparation}
+use Rattle.poqewan.specs.declared.SearchReport.{SearchReport}
 
 -- 0, or the number of the refusal.
 abbrev pub outcomeNumber : Outcome → ℕ

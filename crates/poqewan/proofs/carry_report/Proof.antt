@@ -1,8 +1,8 @@
--- `exports::carry_report` meets its contract: the ending crosses by its number and its window. Assumes nothing.
+-- `poqewan::carry_report` meets its contract: the ending crosses by its number and its window. Assumes nothing.
 use mathlib.Core.Path.{refl}
 use borrow.Author.Needs.{needs}
-use Rattle.exports.proofs.carry_report.Statement.{statement}
-use Rattle.exports.proofs.carry_report.Tie as tie
+use Rattle.poqewan.proofs.carry_report.Statement.{statement}
+use Rattle.poqewan.proofs.carry_report.Tie as tie
 
 pub carry-report-spec : {M : Type 1} → statement M
 carry-report-spec =

@@ -1,9 +1,9 @@
--- `exports::poqewan_prepare` meets its contract: what `pattern::prepare` answers is carried, field by field. Assumes nothing.
+-- `poqewan::poqewan_prepare` meets its contract: what `pattern::prepare` answers is carried, field by field. Assumes nothing.
 use mathlib.Core.Path.{ap}
 use borrow.Author.Needs.{needs}
-use Rattle.exports.specs.Carried.{carriedPreparation}
-use Rattle.exports.proofs.poqewan_prepare.Statement.{statement}
-use Rattle.exports.proofs.poqewan_prepare.Tie as tie
+use Rattle.poqewan.specs.Carried.{carriedPreparation}
+use Rattle.poqewan.proofs.poqewan_prepare.Statement.{statement}
+use Rattle.poqewan.proofs.poqewan_prepare.Tie as tie
 
 prepare-requires : tie.Need-prepare-requires
 prepare-requires c κs = search needs

@@ -1,10 +1,10 @@
--- `exports::poqewan_colussi` meets its contract: what `search::colussi` promises of its answer holds of the answer carried. Assumes nothing.
+-- `poqewan::poqewan_colussi` meets its contract: what `search::colussi` promises of its answer holds of the answer carried. Assumes nothing.
 use mathlib.Core.Path.{ap, _∙_}
 use borrow.Author.Needs.{needs}
-use Rattle.exports.specs.Carried.{carried}
-use Rattle.exports.proofs.Carrying.{promised-to-c}
-use Rattle.exports.proofs.poqewan_colussi.Statement.{statement}
-use Rattle.exports.proofs.poqewan_colussi.Tie as tie
+use Rattle.poqewan.specs.Carried.{carried}
+use Rattle.poqewan.proofs.Carrying.{promised-to-c}
+use Rattle.poqewan.proofs.poqewan_colussi.Statement.{statement}
+use Rattle.poqewan.proofs.poqewan_colussi.Tie as tie
 
 returns : tie.Need-returns
 returns c =

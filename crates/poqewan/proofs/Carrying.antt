@@ -7,8 +7,8 @@ use Rattle.rules.specs.declared.Report.{Report}
 use Rattle.search.specs.declared.SearchAnswer.{SearchAnswer}
 use Rattle.search.specs.declared.SearchAnswer.the-variants.{Ran, Refused}
 use Rattle.search.specs.Promise.{IfRan}
-use Rattle.exports.specs.Carried.{endingNumber, endingWindow, endingOf, carriedReport, carried, reportIn}
-use Rattle.exports.specs.declared.SearchReport.{SearchReport}
+use Rattle.poqewan.specs.Carried.{endingNumber, endingWindow, endingOf, carriedReport, carried, reportIn}
+use Rattle.poqewan.specs.declared.SearchReport.{SearchReport}
 
 ending-back : (e : Ending) → endingOf (endingNumber e) (endingWindow e) ≡ e
 ending-back Done = refl
