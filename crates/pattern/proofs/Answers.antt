@@ -13,11 +13,12 @@ use Rattle.pattern.specs.Sizes.{longestPattern, scratchSize}
 use Rattle.pattern.specs.Lists.{tabulate, padded}
 use Rattle.pattern.specs.Marks.{markWord}
 use Rattle.pattern.specs.Prepared.{patternOf, unprepared, outcomeOf, prepared, scratchAfter}
-use Rattle.pattern.specs.Internal.Scratch.{RestKept}
+use Rattle.pattern.specs.Internal.Scratch.{Sizes, RestKept}
 use Rattle.pattern.specs.Internal.Ranked.{RankedAll}
 use Rattle.pattern.specs.declared.Pattern.{Pattern}
 use Rattle.refusal.specs.declared.Refusal.{Refusal}
 use Rattle.refusal.specs.declared.Refusal.the-variants.{NoPattern, LongPattern, ShortScratch}
+use Rattle.pattern.specs.declared.Outcome.{Outcome}
 use Rattle.pattern.specs.declared.Outcome.the-variants.{Ready, Refused}
 use Rattle.pattern.specs.declared.Prepared.{Prepared}
 use Rattle.pattern.proofs.Ranked.{places-order}
@@ -51,15 +52,15 @@ module _ (w : List ℕ) (n : ℕ) where
     unfolding outcomeOf
     ready l = rw (ne-eqb (length w) 0 (λ e. omega arith), le-ltb longestPattern (length w) short, le-ltb n scratchSize l, outcomeOf) refl
 
-  -- A pattern that was not refused has a length that passes.
-  pub ready-sizes : outcomeOf w n ≡ Ready → (1 ≤ length w) × (length w ≤ longestPattern)
-  ready-sizes e = (
-    ⊎-elim (λ (a : 0 < length w). a) (λ (a : length w ≤ 0). absurd (not-ready (no-pattern (omega arith)) e)) (less-or 0 (length w)),
-    ⊎-elim (λ (a : longestPattern < length w). absurd (not-ready (long-pattern a) e)) (λ (a : length w ≤ longestPattern). a) (less-or longestPattern (length w)),
-  )
+  -- What was not refused passes every test.
+  pub ready-sizes : outcomeOf w n ≡ Ready → (1 ≤ length w) × (length w ≤ longestPattern) × (scratchSize ≤ n)
+  ready-sizes e =
+      let some : 1 ≤ length w = ⊎-elim (λ (a : 0 < length w). a) (λ (a : length w ≤ 0). absurd (not-ready (no-pattern (omega arith)))) (less-or 0 (length w)) in
+      let short : length w ≤ longestPattern = ⊎-elim (λ (a : longestPattern < length w). absurd (not-ready (long-pattern a))) (λ (a : length w ≤ longestPattern). a) (less-or longestPattern (length w)) in
+      (some, short, ⊎-elim (λ (a : n < scratchSize). absurd (not-ready (short-scratch some short a))) (λ (a : scratchSize ≤ n). a) (less-or n scratchSize))
     where
-      not-ready : {why : Refusal} → outcomeOf w n ≡ Refused why → outcomeOf w n ≡ Ready → ⊥
-      not-ready {why} r e = let o : Refused why ≡ Ready = sym r ∙ e in let z : _≡_ {A = ℕ} 0 1 = cc in omega arith
+      not-ready : {why : Refusal} → outcomeOf w n ≡ Refused why → ⊥
+      not-ready {why} r = let o : Refused why ≡ Ready = sym r ∙ e in let z : _≡_ {A = ℕ} 0 1 = cc in omega arith
 
   -- ---- The answer
 
@@ -71,18 +72,37 @@ module _ (w : List ℕ) (n : ℕ) where
   unfolding prepared
   ready-answer e = rw (e, prepared) refl
 
--- ---- What `prepare` ensures
+-- ---- What follows from the outcome o of the tests: for the answer
+
+module _ (w : List ℕ) (n : ℕ) {o : Outcome} (tested : o ≡ outcomeOf w n) where
+  pub room : o ≡ Ready → scratchSize ≤ n
+  room e = ready-sizes w n (sym tested ∙ e) .2
+
+  pub sizes : (s : List ℕ) → o ≡ Ready → n ≡ length s → Sizes w s
+  sizes s e l = let good = ready-sizes w n (sym tested ∙ e) in record { some = good .0; short = good .1; room = rw (sym l) (good .2) }
+
+  pub success : {p : Pattern} → o ≡ Ready → p ≡ patternOf w → record { outcome = o; pattern = p } ≡ prepared w n
+  success e q = rw (e, q) (sym (ready-answer w n (sym tested ∙ e)))
+
+  pub refusal : {why : Refusal} {r : Prepared} → o ≡ Refused why → r ≡ unprepared why → r ≡ prepared w n
+  refusal e q = q ∙ sym (refused-answer w n (sym tested ∙ e))
+
+-- ---- For the scratch
 
 module _ (w s : List ℕ) where
-  -- A refusal leaves the scratch as it was.
-  pub refusal : {why : Refusal} {r : Prepared} → outcomeOf w (length s) ≡ Refused why → r ≡ unprepared why
-      → (r ≡ prepared w (length s)) × (s ≡ scratchAfter w s)
+  after-ready : outcomeOf w (length s) ≡ Ready → scratchAfter w s ≡ replicate scratchSize 0 ++ drop scratchSize s
   unfolding scratchAfter
-  refusal e q = (q ∙ sym (refused-answer w (length s) e), rw (e, scratchAfter) refl)
+  after-ready e = rw (e, scratchAfter) refl
 
-  -- Success: the first part of t, what the scratch then holds, was filled with zeros, and the rest is as it was.
-  pub success : {p : Pattern} {part : List ℕ} (t : List ℕ)
-      → outcomeOf w (length s) ≡ Ready → p ≡ patternOf w → scratchSize ≤ length t → part ≡ replicate (length (take scratchSize t)) 0 → RestKept s t
-      → (record { outcome = Ready; pattern = p } ≡ prepared w (length s)) × (part ++ drop scratchSize t ≡ scratchAfter w s)
+  after-refused : {why : Refusal} → outcomeOf w (length s) ≡ Refused why → scratchAfter w s ≡ s
   unfolding scratchAfter
-  success t e q l f k = (rw q (sym (ready-answer w (length s) e)), rw (e, f, length-take-le scratchSize t l, k, scratchAfter) refl)
+  after-refused e = rw (e, scratchAfter) refl
+
+  module _ {o : Outcome} (tested : o ≡ outcomeOf w (length s)) where
+    -- The first part of t, what the scratch then holds, was filled with zeros, and the rest is as it was.
+    pub cleared : {part : List ℕ} (t : List ℕ) → o ≡ Ready → scratchSize ≤ length t → part ≡ replicate (length (take scratchSize t)) 0 → RestKept s t
+        → part ++ drop scratchSize t ≡ scratchAfter w s
+    cleared t e l f k = rw (f, length-take-le scratchSize t l, k) (sym (after-ready (sym tested ∙ e)))
+
+    pub kept : {why : Refusal} → o ≡ Refused why → s ≡ scratchAfter w s
+    kept e = sym (after-refused (sym tested ∙ e))

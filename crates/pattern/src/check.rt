@@ -1,7 +1,10 @@
 // The test behind refusal 4: a pattern's own bytes are prepared again, and every field is compared.
+use super::Outcome;
 use super::Pattern;
 use super::Prepared;
-use super::prepare;
+use super::build::build;
+use super::outcome_of;
+use super::refused;
 use super::sizes::SCRATCH;
 ghost use mathlib.Core.Path.{_≡_};
 ghost use Prim.Native.Nat.{min};
@@ -17,13 +20,21 @@ fn least(a: usize, b: usize) -> usize
     if a < b { a } else { b }
 }
 
-// What preparation answers to the first len bytes, in a scratch of its own.
+// What preparation answers to the first len bytes. The scratch is its own, and nobody needs it cleared.
 pub fn prepared_again(bytes: &[u8], len: usize) -> Prepared
     ensures { λ r. ⌜ r ≡ prepared (take len (now (bytes .entry))) scratchSize ⌝ }
 {
     let mut scratch = [0u16; SCRATCH];
     let taken = least(len, bytes.len());
-    prepare(&bytes[..taken], &mut scratch)
+    let own = &bytes[..taken];
+    let outcome = outcome_of(own, SCRATCH);
+    match outcome {
+        Outcome::Ready => {
+            let pattern = build(own, &mut scratch);
+            Prepared { outcome, pattern }
+        }
+        Outcome::Refused(why) => refused(why),
+    }
 }
 
 // Whether two lists are the same. The loop runs on past a difference, so that many entries are compared at once.

@@ -17,7 +17,7 @@ ghost use mathlib.Core.Path.{_≡_};
 ghost use mathlib.Core.Bool.{true};
 ghost use mathlib.Core.Logic.{_↔_};
 ghost use lib.ListN.{length};
-ghost use Rattle.pattern.specs.Prepared.{prepared, scratchAfter, unprepared};
+ghost use Rattle.pattern.specs.Prepared.{outcomeOf, prepared, scratchAfter, unprepared};
 ghost use Rattle.pattern.specs.Check.{isPrepared, IsPrepared};
 
 // Document 01's card: the pattern and its tables. The entries past those defined are 0.
@@ -49,6 +49,22 @@ pub struct Prepared {
     pub pattern: Pattern,
 }
 
+// Tests 1, 2 and 3, in this order, of bytes and a scratch of so many numbers.
+fn outcome_of(bytes: &[u8], numbers: usize) -> Outcome
+    ensures { λ r. ⌜ r ≡ outcomeOf (now (bytes .entry)) numbers ⌝ }
+{
+    if bytes.len() == 0 {
+        return Outcome::Refused(Refusal::NoPattern);
+    }
+    if LONGEST_PATTERN < bytes.len() {
+        return Outcome::Refused(Refusal::LongPattern);
+    }
+    if numbers < SCRATCH {
+        return Outcome::Refused(Refusal::ShortScratch);
+    }
+    Outcome::Ready
+}
+
 fn refused(why: Refusal) -> Prepared
     ensures { λ r. ⌜ r ≡ unprepared why ⌝ }
 {
@@ -73,20 +89,14 @@ pub fn prepare(bytes: &[u8], scratch: &mut [u16]) -> Prepared
     ensures answer { λ r. ⌜ r ≡ prepared (now (bytes .entry)) (length (now (scratch .entry))) ⌝ }
     ensures scratched { λ r. ⌜ now (scratch .exit) ≡ scratchAfter (now (bytes .entry)) (now (scratch .entry)) ⌝ }
 {
-    if bytes.len() == 0 {
-        return refused(Refusal::NoPattern);
-    }
-    if LONGEST_PATTERN < bytes.len() {
-        return refused(Refusal::LongPattern);
-    }
-    if scratch.len() < SCRATCH {
-        return refused(Refusal::ShortScratch);
-    }
-    let pattern = build::build(bytes, scratch);
-    entries::fill(&mut scratch[..SCRATCH], 0);
-    Prepared {
-        outcome: Outcome::Ready,
-        pattern,
+    let outcome = outcome_of(bytes, scratch.len());
+    match outcome {
+        Outcome::Ready => {
+            let pattern = build::build(bytes, scratch);
+            entries::fill(&mut scratch[..SCRATCH], 0);
+            Prepared { outcome, pattern }
+        }
+        Outcome::Refused(why) => refused(why),
     }
 }
 

@@ -1,44 +1,58 @@
--- `prepare` meets its contract: its tests are those of outcomeOf, in the same order, and after success the fill leaves zeros in the
--- first scratchSize numbers of the scratch. Assumes nothing.
+-- `prepare` meets its contract: it goes by the outcome of its tests, and after success the fill leaves zeros in the first scratchSize
+-- numbers of the scratch. Assumes nothing.
+use mathlib.Core.Path.{refl}
 use native.Mathlib.Omega.{arith}
 use lib.ListN.{length-take}
 use borrow.Author.Needs.{needs}
-use Rattle.pattern.proofs.Answers.{no-pattern, long-pattern, short-scratch, ready, refusal, success}
+use Rattle.pattern.proofs.Answers.{room, sizes, success, refusal, cleared, kept}
 use Rattle.pattern.proofs.prepare.Statement.{statement}
 use Rattle.pattern.proofs.prepare.Tie as tie
 
-returns : tie.Need-returns
-returns c = refusal _ _ (no-pattern _ _ (omega arith)) (c .refused .ensures)
+build-requires : tie.Need-build-requires
+build-requires c κs =
+    let told = c .before in
+    sizes _ _ (told .before .before .outcome-of .ensures) _ (told .enum-told .given .1) refl
 
-returns-2 : tie.Need-returns-2
-returns-2 c = refusal _ _ (long-pattern _ _ (omega arith)) (c .refused2 .ensures)
-
-returns-3 : tie.Need-returns-3
-returns-3 c = refusal _ _ (short-scratch _ _ (omega arith) (omega arith) (omega arith)) (c .refused3 .ensures)
+slice-relend-prefix-fill : tie.Need-slice-relend-prefix-fill
+slice-relend-prefix-fill c =
+    let told = c .before .before .before .before in
+    omega (arith, room _ _ (told .before .before .outcome-of .ensures) (told .enum-told .given .1))
 
 slice-aggregate-fill : tie.Need-slice-aggregate-fill
-slice-aggregate-fill c = simp length-take (omega arith)
+slice-aggregate-fill c =
+    let told = c .before .before .before .before .before in
+    simp length-take (omega (arith, room _ _ (told .before .before .outcome-of .ensures) (told .enum-told .given .1)))
 
-returns-4 : tie.Need-returns-4
-returns-4 c =
+returns : tie.Need-returns
+returns c =
     let filled = c .before .before in
-    let built = filled .before .before .before .before .build in
-    success _ _ (built .last .1 .0) (ready _ _ (omega arith) (omega arith) (omega arith))
-    (built .ensures .0) (omega arith) (filled .fill .ensures) (built .ensures .1)
+    let built = filled .before .before .before .before in
+    let told = built .before .before in
+    let tested = told .before .before .outcome-of .ensures in
+    let ready = told .enum-told .given .1 in (
+      success _ _ tested ready (built .build .ensures .0),
+      cleared _ _ tested (built .build .last .1 .0) ready (omega (arith, room _ _ tested ready)) (filled .fill .ensures) (built .build .ensures .1),
+    )
+
+returns-2 : tie.Need-returns-2
+returns-2 c =
+    let outcome = c .before .before in
+    let tested = outcome .before .before .outcome-of .ensures in
+    let told = outcome .outcome .given .1 in
+    (refusal _ _ tested told (c .refused .ensures), kept _ _ tested told)
 
 pub prepare-spec : {M : Type 1} → statement M
 prepare-spec =
     tie.close
     (tie.spec
     (λ c κs. search needs)
-    returns
-    (λ c κs. search needs)
-    returns-2
-    (λ c κs. search needs)
-    returns-3
-    (λ c κs. search needs)
     (λ c. search needs)
+    build-requires
+    slice-relend-prefix-fill
     slice-aggregate-fill
     (λ c κs. search needs)
     (λ c. search needs)
-    returns-4)
+    (λ c κs. search needs)
+    (λ c. search needs)
+    returns
+    returns-2)
