@@ -1,24 +1,17 @@
 /*
- * Measures the library against plain C by the same rules and prints, in Markdown: the throughput of the searches; the cost
- * of preparation and of the check of a pattern; the time per byte as the text grows; and whether each target holds. With the
- * argument --counts it prints counts and ceilings instead, for the picture; with --singles how the times of single searches are
- * spread.
+ * Measures the library against plain C by the same rules and prints docs/performance-rows.md: the ratios to the C; the
+ * throughput, with the counts; the cost of preparation and of the check of a pattern; the time per byte as the text grows; the
+ * ratios by kind; and whether each target holds.
  *
- * It exits with 1 if two searches differ in an answer. A missed target is printed and no more: times depend on the machine.
+ * It exits with 1 if two searches differ in an answer, and then measures nothing. A missed target is printed and no more: times
+ * depend on the machine.
  */
-#include "inputs.h"
-#include "reference.h"
-#include "searches.h"
+#include "rows.h"
+#include "uncounted.h"
 
 #include <inttypes.h>
 #include <math.h>
 #include <stdio.h>
-#include <stdlib.h>
-#include <string.h>
-
-/* The fastest of so many measurements counts, each of about so many seconds or of one run. */
-#define MEASUREMENTS 5
-#define MEASUREMENT 1e-2
 
 /* The targets: ours to the C by the same rules, on every row and on random text over 256 letters; the spread of the time per
    byte in per cent; the check of a pattern of 256 bytes and of 8, in seconds. */
@@ -28,449 +21,262 @@
 #define LONGEST_CHECK_OF_256 4e-6
 #define LONGEST_CHECK_OF_8 1e-6
 
-/* A search that counts nothing, and is there for orientation, is measured once if it takes more than so many seconds. */
-#define SLOW 0.1
+/* The trials that are added: to the short texts; and to the longest. */
+enum { UNCOUNTED = ADDED };
+enum { PIECES = ADDED, LOOP };
 
-/* The last comes nearest to the ceiling: `worst` finds no greater count for any short pattern of two letters in any text. */
-static const struct kind counted_kinds[] = {
-    {"random, 256 letters", random_256, text_of_256},
-    {"random, 4 letters", random_4, text_of_4},
-    {"random, 2 letters", random_2, text_of_2},
-    {"a^m, in a^n", one_letter, equal_text},
-    {"a^(m-1)b, in a^n", last_differs, equal_text},
-    {"aba^(m-2), in a^n", second_differs, equal_text},
-    {"Fibonacci word, in a longer one", fibonacci, fibonacci_text},
-    {"a^kba^k, repeated", middle_differs, repeated_text},
-};
+enum uncounted { NAIVE, MEMMEM, UNCOUNTED_SEARCHES };
 
-/* Lent to every search, and of the greatest length. */
-static uint8_t *text;
-static struct lists lists;
-
-static poqewan_pattern prepare(const uint8_t *bytes, size_t m)
+static void run_uncounted(int search, int copy)
 {
-    uint16_t scratch[POQEWAN_SCRATCH];
-    return poqewan_prepare(bytes, m, scratch, POQEWAN_SCRATCH).pattern;
+    (void)copy;
+    (search == NAIVE ? naive_search : memmem_search)(&subjects[0], UINT64_MAX, lists.one, subjects[0].n);
 }
 
-/* A pattern of a kind and its text, which is written over the last. */
-static struct subject make_subject(const struct kind *kind, size_t m, size_t n, uint64_t number)
+/* The text in pieces of a size, one after the other. Every size goes over the same bytes, each once: a short text that is
+   searched again and again would be known to the caches and to the branch predictor. */
+static void run_pieces(int size, int copy)
 {
-    uint8_t bytes[POQEWAN_LONGEST_PATTERN];
-    make_input(kind, bytes, m, text, n, number);
-    return (struct subject){prepare(bytes, m), text, n};
-}
-
-/* Throughput. */
-
-struct row {
-    const struct kind *kind;
-    const struct size *size;
-    size_t m;
-    uint64_t count;
-    double first[SEARCHES], best[SEARCHES]; /* seconds of a run: of the first, and in the fastest measurement */
-};
-
-#define ROWS (COUNT_OF(kinds) * COUNT_OF(lengths) * COUNT_OF(sizes))
-
-/* How many runs fill a measurement. */
-static size_t times_for(double expected)
-{
-    return 1 + (size_t)(MEASUREMENT / expected);
-}
-
-/* Seconds of one run, as the mean of so many. */
-static double run_times(enum search search, const struct subject *subject, size_t times)
-{
-    double start = now();
-    for (size_t i = 0; i < times; i++)
-        run(search, subject, UINT64_MAX, lists.one, subject->n);
-    return (now() - start) / (double)times;
-}
-
-static bool measured_once(enum search search, double expected)
-{
-    return (search == NAIVE || search == MEMMEM) && expected > SLOW;
-}
-
-static double ratio(const struct row *row, enum search ours, enum search theirs)
-{
-    return row->best[theirs] / row->best[ours];
-}
-
-static void print_row(const struct row *row)
-{
-    const size_t n = row->size->n, m = row->m;
-    double speed[SEARCHES];
-    for (enum search search = 0; search < SEARCHES; search++)
-        speed[search] = (double)n * 1e-6 / row->best[search];
-    printf("| %-21s | %6s | %3zu | %7.0f | %5.0f | %5.2f | %5.0f | %5.0f | %5.2f | %5.0f | %6.0f | %8" PRIu64
-           " | %8zu | %7.1f |\n",
-           row->kind->name, row->size->name, m, speed[COLUSSI], speed[C_COLUSSI], ratio(row, COLUSSI, C_COLUSSI), speed[KMP],
-           speed[C_KMP], ratio(row, KMP, C_KMP), speed[NAIVE], speed[MEMMEM], row->count, (3 * n - m) / 2,
-           200.0 * (double)row->count / (double)(3 * n - m));
-}
-
-/* Tells whether the searches agree, and how long each takes. */
-static bool first_runs(struct row *row, const struct subject *subject)
-{
-    struct results results;
-    bool agreed = all_agree(subject, lists, &results);
-    if (!agreed)
-        printf("DIFFERS: %s, n = %s, m = %zu\n", row->kind->name, row->size->name, row->m);
-    row->count = results.reports[COLUSSI].count;
-    for (enum search search = 0; search < SEARCHES; search++) {
-        row->first[search] = results.seconds[search];
-        row->best[search] = measured_once(search, row->first[search]) ? row->first[search] : INFINITY;
+    struct subject piece = {subjects[0].pattern, subjects[0].text, sizes[size].n};
+    for (size_t at = 0; at < subjects[0].n; at += piece.n) {
+        piece.text = subjects[0].text + at;
+        versions[OURS][copy]->colussi(&piece, UINT64_MAX, lists.one + at, piece.n);
     }
-    return agreed;
 }
 
-static void measure(struct row *row, const struct subject *subject)
+/* The same of a loop for a byte that the text has not. */
+static void run_loop(int size, int copy)
 {
-    for (enum search search = 0; search < SEARCHES; search++)
-        if (!measured_once(search, row->first[search]))
-            row->best[search] = fmin(row->best[search], run_times(search, subject, times_for(row->first[search])));
+    (void)copy;
+    for (size_t at = 0; at < subjects[0].n; at += sizes[size].n)
+        find_byte(subjects[0].text + at, sizes[size].n, 'b');
 }
 
-/* One measurement of every row: the searches take turns, and so do the rows, so that a slow spell of the machine hits all
-   searches alike and only one of a row's measurements. */
-static bool measure_rows(struct row *row, bool first)
+#define EQUAL_TEXT 4 /* of the kinds */
+
+static void add_trials(void)
 {
-    bool agreed = true;
+    static const struct work uncounted = {"uncounted", run_uncounted}, pieces = {"pieces", run_pieces}, loop = {"loop", run_loop};
+    const struct share few = {32, 1, 1, thread_time}, more = {16, 1, 1, thread_time}; /* the sizes share the place of the code */
+    for (struct row *row = rows; row < rows + SHORT_TEXTS; row++)
+        add_trial(row, &uncounted, UNCOUNTED_SEARCHES, few);
     for (size_t k = 0; k < COUNT_OF(kinds); k++)
-        for (size_t l = 0; l < COUNT_OF(lengths); l++) {
-            struct subject subject = make_subject(&kinds[k], lengths[l], POQEWAN_LONGEST_TEXT, lengths[l]);
-            for (size_t s = 0; s < COUNT_OF(sizes); s++, row++) {
-                subject.n = sizes[s].n; /* a shorter text is the start of the longest */
-                if (first) {
-                    *row = (struct row){.kind = &kinds[k], .size = &sizes[s], .m = lengths[l]};
-                    agreed = first_runs(row, &subject) && agreed;
-                }
-                measure(row, &subject);
-            }
-        }
-    return agreed;
+        add_trial(&longest_texts[k], &pieces, COUNT_OF(sizes), more);
+    add_trial(&longest_texts[EQUAL_TEXT], &loop, COUNT_OF(sizes), more);
 }
 
-/* Whether all searches agreed. */
-static bool throughput(struct row rows[ROWS])
+static bool all_agree(const struct subject *subject)
 {
-    bool agreed = measure_rows(rows, true);
-    for (int turn = 1; turn < MEASUREMENTS; turn++)
-        measure_rows(rows, false);
-    puts("## Throughput\n\n"
-         "In MB (1,000,000 bytes) of text a second, the best of five measurements. \"C\" is the same search by the same rules in plain\n"
-         "C, and a ratio is ours to it. The count is that of Colussi's order; its ceiling is (3n - m) / 2.\n\n"
-         "| text, pattern         | n      | m   | Colussi | in C  | ratio | KMP   | in C  | ratio | naive | memmem | count    | "
-         "ceiling  | % of it |\n"
-         "|-----------------------|-------:|----:|--------:|------:|------:|------:|------:|------:|------:|-------:|---------:|"
-         "---------:|--------:|");
-    for (size_t row = 0; row < ROWS; row++)
-        print_row(&rows[row]);
-    return agreed;
+    return sides_agree(subject) && uncounted_agree(versions[OURS][0]->colussi, subject, lists)
+        && uncounted_agree(versions[OURS][0]->kmp, subject, lists);
 }
 
-/* The cost of preparation, and of the check of a pattern: a search of no text does nothing else. */
+/* The tables. */
 
-static const size_t checked_lengths[] = {1, 8, 16, 64, 256};
-
-struct cost {
-    double prepare, check;
-};
-
-typedef struct cost cost_table[COUNT_OF(families)][COUNT_OF(checked_lengths)];
-
-static uint8_t bytes_in_turn[IN_TURN][POQEWAN_LONGEST_PATTERN];
-static poqewan_pattern patterns_in_turn[IN_TURN];
-
-static double prepare_all(size_t m, size_t times)
+static void print_throughput(const struct row *row)
 {
-    uint16_t scratch[POQEWAN_SCRATCH];
-    double start = now();
-    for (size_t time = 0; time < times; time++)
-        for (size_t i = 0; i < IN_TURN; i++)
-            poqewan_prepare(bytes_in_turn[i], m, scratch, POQEWAN_SCRATCH);
-    return (now() - start) / (double)times;
+    const size_t n = row->input.size->n, m = row->input.m;
+    make(&row->input);
+    const uint64_t count = versions[OURS][0]->colussi(&subjects[0], UINT64_MAX, lists.one, n).count;
+    const double mega = (double)n * 1e-6;
+    printf("| %-21s | %6s | %3zu | %7.0f | %5.0f | %5.0f | %6.0f | %8" PRIu64 " | %8zu | %7.1f |\n", name_of(row),
+           size_name_of(row), m, mega / row->trial[COLUSSI].times[OURS].least, mega / row->trial[KMP].times[OURS].least,
+           mega / row->trial[UNCOUNTED].times[NAIVE].least, mega / row->trial[UNCOUNTED].times[MEMMEM].least, count,
+           (3 * n - m) / 2, 200.0 * (double)count / (double)(3 * n - m));
 }
 
-static double check_all(size_t times)
+static void throughput(void)
 {
-    double start = now();
-    for (size_t time = 0; time < times; time++)
-        for (size_t i = 0; i < IN_TURN; i++)
-            poqewan_colussi(patterns_in_turn[i], NULL, 0, 0, NULL, 0);
-    return (now() - start) / (double)times;
+    puts("\n## Throughput and counts\n\n"
+         "In MB (1,000,000 bytes) of text a second, by the least times. Naive search and memmem count nothing and had few runs.\n"
+         "The count is that of Colussi's order; its ceiling is (3n - m) / 2.\n\n"
+         "| text, pattern         | n      | m   | Colussi | KMP   | naive | memmem | count    | ceiling  | % of it |\n"
+         "|-----------------------|-------:|----:|--------:|------:|------:|-------:|---------:|---------:|--------:|");
+    for (const struct row *row = rows; row < rows + SHORT_TEXTS; row++)
+        print_throughput(row);
 }
 
-static struct cost measure_cost(const struct family *family, size_t m)
+/* Of a call. */
+static double cost_of(const struct row *row, int trial)
 {
-    make_in_turn(family, bytes_in_turn, m);
-    for (size_t i = 0; i < IN_TURN; i++)
-        patterns_in_turn[i] = prepare(bytes_in_turn[i], m);
-    double prepare = prepare_all(m, times_for(prepare_all(m, 1)));
-    double check = check_all(times_for(check_all(1)));
-    return (struct cost){prepare / IN_TURN, check / IN_TURN};
+    return row->trial[trial].times[OURS].tenth / IN_TURN;
 }
 
-static void measure_costs(cost_table best)
+static void costs(void)
 {
-    for (int turn = 0; turn < MEASUREMENTS; turn++)
-        for (size_t f = 0; f < COUNT_OF(families); f++)
-            for (size_t l = 0; l < COUNT_OF(checked_lengths); l++) {
-                struct cost cost = measure_cost(&families[f], checked_lengths[l]), *to = &best[f][l];
-                to->prepare = turn == 0 ? cost.prepare : fmin(to->prepare, cost.prepare);
-                to->check = turn == 0 ? cost.check : fmin(to->check, cost.check);
-            }
-}
-
-static void costs(cost_table table)
-{
-    measure_costs(table);
     puts("\n## Preparation and the check of a pattern\n\n"
-         "In nanoseconds a call. Preparation comes first; then the search of an empty text, which is the check of its pattern.\n\n"
+         "In nanoseconds a call, by the tenth. Preparation comes first; then the search of an empty text, which is its check.\n\n"
          "| pattern             | m = 1 |     8 |    16 |    64 |   256 | check: 1 |     8 |    16 |    64 |   256 |\n"
          "|---------------------|------:|------:|------:|------:|------:|---------:|------:|------:|------:|------:|");
-    for (size_t f = 0; f < COUNT_OF(families); f++) {
-        printf("| %-19s |", families[f].name);
-        for (size_t l = 0; l < COUNT_OF(checked_lengths); l++)
-            printf(" %5.0f |", table[f][l].prepare * 1e9);
-        for (size_t l = 0; l < COUNT_OF(checked_lengths); l++)
-            printf(" %*.0f |", l == 0 ? 8 : 5, table[f][l].check * 1e9);
+    for (const struct row *of = rows + TEXTS; of < rows + ROWS; of += COUNT_OF(lengths_of_patterns)) {
+        printf("| %-19s |", name_of(of));
+        for (size_t l = 0; l < COUNT_OF(lengths_of_patterns); l++)
+            printf(" %5.0f |", cost_of(of + l, PREPARATION) * 1e9);
+        for (size_t l = 0; l < COUNT_OF(lengths_of_patterns); l++)
+            printf(" %*.0f |", l == 0 ? 8 : 5, cost_of(of + l, CHECK) * 1e9);
         putchar('\n');
     }
 }
 
-/* The time per byte as the text grows. */
-
-struct growth {
-    double best[COUNT_OF(sizes)]; /* nanoseconds per byte */
-};
-
-typedef void piece_search(const struct subject *piece, uint32_t *positions);
-
-static void find_pattern(const struct subject *piece, uint32_t *positions)
-{
-    run(COLUSSI, piece, UINT64_MAX, positions, piece->n);
-}
-
-/* Of a text without b. */
-static void find_b(const struct subject *piece, uint32_t *positions)
-{
-    (void)positions;
-    reference_find(piece->text, piece->n, 'b');
-}
-
-/* Nanoseconds per byte to go over a text in pieces of n bytes, one after the other. */
-static double time_pieces(piece_search *search, const struct subject *whole, size_t n)
-{
-    double start = now();
-    for (size_t at = 0; at < whole->n; at += n) {
-        struct subject piece = {whole->pattern, whole->text + at, n};
-        search(&piece, lists.one + at);
-    }
-    return (now() - start) / (double)whole->n * 1e9;
-}
-
-/* One measurement. Every size goes over the same bytes, each once: a short text that is searched again and again would be known
-   to the caches and to the branch predictor. */
-static void measure_growth(struct growth *growth, piece_search *search, const struct kind *kind, bool first)
-{
-    struct subject whole = make_subject(kind, 16, POQEWAN_LONGEST_TEXT, 16);
-    for (size_t s = 0; s < COUNT_OF(sizes); s++) {
-        double nanoseconds = time_pieces(search, &whole, sizes[s].n);
-        growth->best[s] = first ? nanoseconds : fmin(growth->best[s], nanoseconds);
-    }
-}
-
-/* In per cent, of the slowest over the fastest. */
-static double spread(const struct growth *growth)
+/* Of the slowest size over the fastest, by pairs: all sizes run the same code, so that a slow spell changes the times and not
+   their ratio, and a run over 16 MiB is too long for a quiet moment. */
+static double spread(const struct trial *trial)
 {
     double fastest = INFINITY, slowest = 0;
     for (size_t s = 0; s < COUNT_OF(sizes); s++) {
-        fastest = fmin(fastest, growth->best[s]);
-        slowest = fmax(slowest, growth->best[s]);
+        fastest = fmin(fastest, trial->times[s].ratios[PAIRS]);
+        slowest = fmax(slowest, trial->times[s].ratios[PAIRS]);
     }
-    return (slowest / fastest - 1) * 100;
+    return slowest / fastest;
 }
 
-static void print_growth(const char *name, const struct growth *growth)
+static void print_growth(const char *name, const struct trial *trial)
 {
     printf("| %-21s |", name);
     for (size_t s = 0; s < COUNT_OF(sizes); s++)
-        printf(" %6.3f |", growth->best[s]);
-    printf(" %4.0f %% |\n", spread(growth));
+        printf(" %6.3f |", trial->times[s].least / POQEWAN_LONGEST_TEXT * 1e9);
+    printf(" %6.3f |\n", spread(trial));
 }
 
-/* The kinds take turns, as the rows above. */
-static void growths(struct growth by_kind[COUNT_OF(kinds)])
+static void growths(void)
 {
-    const struct kind absent = {"C loop for a byte", one_letter, equal_text};
-    struct growth loop;
-    for (int turn = 0; turn < MEASUREMENTS; turn++) {
-        for (size_t k = 0; k < COUNT_OF(kinds); k++)
-            measure_growth(&by_kind[k], find_pattern, &kinds[k], turn == 0);
-        measure_growth(&loop, find_b, &absent, turn == 0);
-    }
     puts("\n## Time per byte\n\n"
-         "In nanoseconds, of the search in Colussi's order with m = 16, over the same 16 MiB of text in pieces of each size, one after\n"
-         "the other. The spread is that of the slowest over the fastest. The last row is a loop in C for one byte that is absent.\n\n"
+         "In nanoseconds, the least, of the search in Colussi's order with m = 16, over the same 16 MiB of text in pieces of each\n"
+         "size, one after the other. The spread is the time of the slowest size to that of the fastest, by pairs. The last row is a\n"
+         "loop in C for one byte that is absent.\n\n"
          "| text, pattern         | 64 KiB |  1 MiB | 16 MiB | spread |\n"
          "|-----------------------|-------:|-------:|-------:|-------:|");
     for (size_t k = 0; k < COUNT_OF(kinds); k++)
-        print_growth(kinds[k].name, &by_kind[k]);
-    print_growth(absent.name, &loop);
+        print_growth(kinds[k].name, &longest_texts[k].trial[PIECES]);
+    print_growth("C loop for a byte", &longest_texts[EQUAL_TEXT].trial[LOOP]);
 }
 
-/* The verdicts. */
+/* The summary. Ratios are by the fastest tenth. */
+
+static double ratio_of(const struct row *row, int search)
+{
+    return row->trial[search].times[OTHER].ratios[TENTH];
+}
+
+/* Of the text rows of one kind, or of all. */
+struct range {
+    const struct row *least, *greatest;
+    size_t rows, missed;
+};
+
+static struct range range_of(const struct kind *kind, int search, double target)
+{
+    struct range range = {NULL, NULL, 0, 0};
+    for (const struct row *row = rows; row < rows + TEXTS; row++) {
+        if (kind != NULL && row->input.kind != kind)
+            continue;
+        range.rows++;
+        range.missed += ratio_of(row, search) < target;
+        if (range.least == NULL || ratio_of(row, search) < ratio_of(range.least, search))
+            range.least = row;
+        if (range.greatest == NULL || ratio_of(row, search) > ratio_of(range.greatest, search))
+            range.greatest = row;
+    }
+    return range;
+}
+
+static void ratios_by_kind(void)
+{
+    puts("\n## Ratios by kind\n\n"
+         "The least and the greatest, by the tenth.\n\n"
+         "| text, pattern         | Colussi's order | Knuth-Morris-Pratt |\n"
+         "|-----------------------|-----------------|--------------------|");
+    for (size_t k = 0; k < COUNT_OF(kinds); k++) {
+        const struct range of_colussi = range_of(&kinds[k], COLUSSI, 0), of_kmp = range_of(&kinds[k], KMP, 0);
+        printf("| %-21s | %4.2f to %4.2f    | %4.2f to %4.2f       |\n", kinds[k].name, ratio_of(of_colussi.least, COLUSSI),
+               ratio_of(of_colussi.greatest, COLUSSI), ratio_of(of_kmp.least, KMP), ratio_of(of_kmp.greatest, KMP));
+    }
+}
 
 static const char *word(bool holds)
 {
     return holds ? "holds" : "FAILS";
 }
 
-/* Over all rows, or those of one kind. */
-static void judge_ratio(const char *claim, const struct row rows[ROWS], enum search ours, enum search theirs, double target,
-                        const struct kind *only)
+/* The least times of each copy, in nanoseconds a byte: what the place of the code does. */
+static void print_copies(const struct row *row, int search, enum side side)
 {
-    const struct row *worst = NULL;
-    size_t missed = 0, of = 0;
-    for (const struct row *row = rows; row < rows + ROWS; row++) {
-        if (only != NULL && row->kind != only)
-            continue;
-        of++;
-        missed += ratio(row, ours, theirs) < target;
-        if (worst == NULL || ratio(row, ours, theirs) < ratio(worst, ours, theirs))
-            worst = row;
-    }
-    printf("- %s: %s; least %.2f (%s, n = %s, m = %zu), missed on %zu of %zu rows\n", word(missed == 0), claim,
-           ratio(worst, ours, theirs), worst->kind->name, worst->size->name, worst->m, missed, of);
+    const struct trial *trial = &row->trial[search];
+    for (int copy = 0; copy < trial->share.copies; copy++)
+        printf(" %.2f", trial->seconds[side][copy][0] / (double)row->input.size->n * 1e9);
 }
 
-static void judge_growth(const char *claim, const struct growth by_kind[COUNT_OF(kinds)], double target)
+static void judge_ratio(const char *claim, const struct kind *kind, int search, double target)
+{
+    const struct range range = range_of(kind, search, target);
+    const struct row *worst = range.least;
+    printf("- %s: %s; least %.2f (%s, n = %s, m = %zu; copy by copy, ours", word(range.missed == 0), claim,
+           ratio_of(worst, search), name_of(worst), size_name_of(worst), worst->input.m);
+    print_copies(worst, search, OURS);
+    printf(", C");
+    print_copies(worst, search, OTHER);
+    printf("), missed on %zu of %zu rows\n", range.missed, range.rows);
+}
+
+static double spread_in_per_cent(size_t kind)
+{
+    return (spread(&longest_texts[kind].trial[PIECES]) - 1) * 100;
+}
+
+static void judge_growth(const char *claim, double target)
 {
     size_t worst = 0, missed = 0;
     for (size_t k = 0; k < COUNT_OF(kinds); k++) {
-        missed += spread(&by_kind[k]) > target;
-        if (spread(&by_kind[k]) > spread(&by_kind[worst]))
+        missed += spread_in_per_cent(k) > target;
+        if (spread_in_per_cent(k) > spread_in_per_cent(worst))
             worst = k;
     }
-    printf("- %s: %s; most %.0f %% (%s), missed on %zu of %zu rows\n", word(missed == 0), claim, spread(&by_kind[worst]),
+    printf("- %s: %s; most %.1f %% (%s), missed on %zu of %zu rows\n", word(missed == 0), claim, spread_in_per_cent(worst),
            kinds[worst].name, missed, COUNT_OF(kinds));
 }
 
-static void judge_check(const char *claim, cost_table table, size_t m, double target)
+static void judge_check(const char *claim, size_t m, double target)
 {
-    size_t length = 0, worst = 0;
-    while (checked_lengths[length] != m)
-        length++;
-    for (size_t f = 0; f < COUNT_OF(families); f++)
-        if (table[f][length].check > table[worst][length].check)
-            worst = f;
-    printf("- %s: %s; most %.0f ns (%s)\n", word(table[worst][length].check < target), claim,
-           table[worst][length].check * 1e9, families[worst].name);
+    const struct row *worst = NULL;
+    for (const struct row *row = rows + TEXTS; row < rows + ROWS; row++)
+        if (row->input.m == m && (worst == NULL || cost_of(row, CHECK) > cost_of(worst, CHECK)))
+            worst = row;
+    printf("- %s: %s; most %.0f ns (%s)\n", word(cost_of(worst, CHECK) < target), claim, cost_of(worst, CHECK) * 1e9,
+           name_of(worst));
 }
 
-static void verdicts(const struct row rows[ROWS], cost_table table, const struct growth by_kind[COUNT_OF(kinds)])
+static void verdicts(void)
 {
     puts("\n## Verdicts\n");
-    judge_ratio("Colussi's order at 0.95 of the C or better", rows, COLUSSI, C_COLUSSI, LEAST_RATIO, NULL);
-    judge_ratio("KMP at 0.95 of the C or better", rows, KMP, C_KMP, LEAST_RATIO, NULL);
-    judge_ratio("Colussi's order at 3 times the C or better on random text over 256 letters", rows, COLUSSI, C_COLUSSI,
-                LEAST_RATIO_OF_256, &kinds[0]);
-    judge_growth("time per byte from 64 KiB to 16 MiB within 15 %", by_kind, GREATEST_SPREAD);
-    judge_check("search of an empty text under 4 microseconds at m = 256", table, 256, LONGEST_CHECK_OF_256);
-    judge_check("search of an empty text under 1 microsecond at m = 8", table, 8, LONGEST_CHECK_OF_8);
+    judge_ratio("Colussi's order at 0.95 of the C or better", NULL, COLUSSI, LEAST_RATIO);
+    judge_ratio("KMP at 0.95 of the C or better", NULL, KMP, LEAST_RATIO);
+    judge_ratio("Colussi's order at 3 times the C or better on random text over 256 letters", &kinds[0], COLUSSI,
+                LEAST_RATIO_OF_256);
+    judge_growth("time per byte from 64 KiB to 16 MiB within 15 %", GREATEST_SPREAD);
+    judge_check("search of an empty text under 4 microseconds at m = 256", 256, LONGEST_CHECK_OF_256);
+    judge_check("search of an empty text under 1 microsecond at m = 8", 8, LONGEST_CHECK_OF_8);
 }
 
-/* Whether all searches agreed. */
-static bool measurements(void)
-{
-    static struct row rows[ROWS];
-    static cost_table table;
-    static struct growth by_kind[COUNT_OF(kinds)];
-    bool agreed = throughput(rows);
-    costs(table);
-    growths(by_kind);
-    verdicts(rows, table, by_kind);
-    return agreed;
-}
-
-struct tally {
-    uint64_t count, kmp_count;
-};
-
-static uint64_t greater(uint64_t a, uint64_t b)
-{
-    return a > b ? a : b;
-}
-
-/* The greatest counts of a few draws, which differ where the kind is random. */
-static struct tally greatest_counts(const struct kind *kind, size_t m, size_t n)
-{
-    struct tally tally = {0, 0};
-    for (uint64_t draw = 0; draw < 8; draw++) {
-        struct results results;
-        struct subject subject = make_subject(kind, m, n, draw);
-        if (!all_agree(&subject, lists, &results)) {
-            fprintf(stderr, "bench: %s, m = %zu: DIFFERS\n", kind->name, m);
-            exit(1);
-        }
-        tally.count = greater(tally.count, results.reports[COLUSSI].count);
-        tally.kmp_count = greater(tally.kmp_count, results.reports[KMP].count);
-    }
-    return tally;
-}
-
-/* The data of the picture, a line for each kind and length, with tabs between: kind, m, n, count, ceiling, and the count and
-   ceiling of KMP. */
-static void counts(void)
-{
-    const size_t n = 65536;
-    for (size_t k = 0; k < COUNT_OF(counted_kinds); k++)
-        for (size_t m = 4; m <= POQEWAN_LONGEST_PATTERN; m *= 2) {
-            struct tally tally = greatest_counts(&counted_kinds[k], m, n);
-            printf("%s\t%zu\t%zu\t%" PRIu64 "\t%zu\t%" PRIu64 "\t%zu\n", counted_kinds[k].name, m, n, tally.count,
-                   (3 * n - m) / 2, tally.kmp_count, 2 * n - m);
-        }
-}
-
-/* Single searches, in turn, by ours and by the C: what a slow spell of the machine does to both. Of 64 KiB of one letter, where
-   every window is listed. */
-#define SINGLES 3000
-#define CLASSES 12
-
-/* The class of a time per byte: each has a quarter of a nanosecond, from 1; the last has all that is longer. */
-static size_t class_of(double nanoseconds)
-{
-    return nanoseconds < 1 ? 0 : (size_t)fmin((nanoseconds - 1) * 4, CLASSES - 1);
-}
-
-static void singles(void)
-{
-    const enum search searches[] = {COLUSSI, C_COLUSSI};
-    struct subject subject = make_subject(&kinds[4], 16, sizes[0].n, 16);
-    size_t tally[COUNT_OF(searches)][CLASSES] = {{0}};
-    for (int single = 0; single < SINGLES; single++)
-        for (size_t s = 0; s < COUNT_OF(searches); s++)
-            tally[s][class_of(run_times(searches[s], &subject, 1) / (double)subject.n * 1e9)]++;
-    puts("| ns per byte, from | ours | in C |\n|------------------:|-----:|-----:|");
-    for (size_t class = 0; class < CLASSES; class++)
-        printf("| %17.2f | %4zu | %4zu |\n", 1 + (double)class / 4, tally[0][class], tally[1][class]);
-}
-
-int main(int argc, char **argv)
+int main(void)
 {
     setvbuf(stdout, NULL, _IOLBF, 0);
-    text = touched(POQEWAN_LONGEST_TEXT);
-    lists = touched_lists(POQEWAN_LONGEST_TEXT);
-    if (argc > 1 && strcmp(argv[1], "--counts") == 0) {
-        counts();
-        return 0;
-    }
-    if (argc > 1 && strcmp(argv[1], "--singles") == 0) {
-        singles();
-        return 0;
-    }
-    return measurements() ? 0 : 1;
+    set_rows();
+    add_trials();
+    if (!agree_on_rows(all_agree))
+        return 1;
+    measure_rows();
+    puts("# Performance, row by row\n\n"
+         "Printed by `bash bench/run`. What it comes to, and how it was measured, is in [PERFORMANCE.md](PERFORMANCE.md).\n\n"
+         "## Ratios to the C\n\n"
+         "The least times of both in nanoseconds a byte of text. \"C\" is the same search by the same rules in plain C. Then\n"
+         "ratios of its time to ours, so that above 1 ours is the faster: of the least times; of the means of the fastest tenth, by\n"
+         "which the targets are judged; and the median over the pairs of runs. All are geometric means over the copies.\n");
+    print_head_of_ratios("C", "ours");
+    print_text_ratios();
+    throughput();
+    costs();
+    growths();
+    ratios_by_kind();
+    verdicts();
+    return 0;
 }

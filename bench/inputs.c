@@ -223,6 +223,8 @@ const struct family families[7] = {
     {"Fibonacci word", fibonacci},
 };
 
+const size_t lengths_of_patterns[5] = {1, 8, 16, 64, 256};
+
 void make_input(const struct kind *kind, uint8_t *bytes, size_t m, uint8_t *text, size_t n, uint64_t number)
 {
     seed(number);

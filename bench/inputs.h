@@ -49,6 +49,7 @@ extern const struct kind kinds[7];
 extern const struct size sizes[3];
 extern const size_t lengths[4];
 extern const struct family families[7];
+extern const size_t lengths_of_patterns[5];
 
 #define COUNT_OF(array) (sizeof(array) / sizeof *(array))
 

@@ -1,18 +1,17 @@
-/* One loop for each search, as the rules are written, and nothing more clever: the optimizer is left to do the rest. */
-#define _GNU_SOURCE /* memmem */
-#include "reference.h"
-
-#include <string.h>
+/* Colussi's order and Knuth, Morris and Pratt in plain C, by the library's rules and with its report; the pattern is not checked.
+   One loop for each, as the rules are written, and nothing more clever: the optimizer is left to do the rest. */
+#include "subject.h"
 
 static poqewan_report report(uint32_t ending, size_t window, uint64_t count, size_t written)
 {
     return (poqewan_report){.ending = ending, .window = window, .count = count, .written = written};
 }
 
-poqewan_report reference_colussi(const poqewan_pattern *pattern, const uint8_t *text, size_t n, uint64_t cap,
-                                 uint32_t *positions, size_t room)
+static poqewan_report colussi(const struct subject *subject, uint64_t cap, uint32_t *positions, size_t room)
 {
-    const size_t m = pattern->len, d = pattern->noholes;
+    const poqewan_pattern *pattern = &subject->pattern;
+    const uint8_t *text = subject->text;
+    const size_t n = subject->n, m = pattern->len, d = pattern->noholes;
     size_t b = 0, i = 0, e = 0, written = 0;
     uint64_t c = 0;
 
@@ -52,10 +51,11 @@ static void shifts_by_length(const poqewan_pattern *pattern, uint16_t shifts[257
     shifts[pattern->len] = pattern->shift[pattern->len];
 }
 
-poqewan_report reference_kmp(const poqewan_pattern *pattern, const uint8_t *text, size_t n, uint64_t cap,
-                             uint32_t *positions, size_t room)
+static poqewan_report kmp(const struct subject *subject, uint64_t cap, uint32_t *positions, size_t room)
 {
-    const size_t m = pattern->len;
+    const poqewan_pattern *pattern = &subject->pattern;
+    const uint8_t *text = subject->text;
+    const size_t n = subject->n, m = pattern->len;
     size_t b = 0, i = 0, written = 0;
     uint64_t c = 0;
     uint16_t shifts[257];
@@ -82,34 +82,4 @@ poqewan_report reference_kmp(const poqewan_pattern *pattern, const uint8_t *text
     return report(POQEWAN_DONE, 0, c, written);
 }
 
-size_t reference_naive(const uint8_t *bytes, size_t m, const uint8_t *text, size_t n, uint32_t *positions)
-{
-    size_t written = 0;
-    for (size_t b = 0; b + m <= n; b++) {
-        size_t i = 0;
-        while (i < m && bytes[i] == text[b + i])
-            i++;
-        if (i == m)
-            positions[written++] = (uint32_t)b;
-    }
-    return written;
-}
-
-size_t reference_memmem(const uint8_t *bytes, size_t m, const uint8_t *text, size_t n, uint32_t *positions)
-{
-    size_t written = 0;
-    const uint8_t *from = text, *end = text + n, *found;
-    while ((found = memmem(from, (size_t)(end - from), bytes, m)) != NULL) {
-        positions[written++] = (uint32_t)(found - text);
-        from = found + 1;
-    }
-    return written;
-}
-
-size_t reference_find(const uint8_t *text, size_t n, uint8_t byte)
-{
-    size_t p = 0;
-    while (p < n && text[p] != byte)
-        p++;
-    return p;
-}
+const struct version version = {.colussi = colussi, .kmp = kmp};

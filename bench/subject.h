@@ -1,10 +1,8 @@
-/* What a search is given and lent, whether two searches answer alike, and the clock. */
+/* What a search is given, and what is measured: versions of the searches. */
 #ifndef SUBJECT_H
 #define SUBJECT_H
 
 #include <poqewan.h>
-
-#include <stdbool.h>
 
 /* A prepared pattern and the text to look for it in. */
 struct subject {
@@ -16,34 +14,14 @@ struct subject {
 /* A search, whatever it is, under one call. */
 typedef poqewan_report search_function(const struct subject *subject, uint64_t cap, uint32_t *positions, size_t room);
 
-/* Two lists to be lent, of n entries each. */
-struct lists {
-    uint32_t *one, *other;
+/* A build of the library; or plain C by the same rules, which has the searches and nothing more. */
+struct version {
+    search_function *colussi, *kmp;
+    poqewan_preparation (*prepare)(const uint8_t *bytes, size_t bytes_len, uint16_t *scratch, size_t scratch_len);
+    uint64_t (*charge)(uint64_t count);
 };
 
-/* Memory that was written once, so that no measurement pays for the first touch of a page. */
-void *touched(size_t bytes);
-struct lists touched_lists(size_t n);
-
-bool same_report(const poqewan_report *a, const poqewan_report *b);
-bool same_positions(struct lists lists, size_t entries);
-
-/* So that positions which one search has left can't pass for those of the next. */
-void spoil(uint32_t *list, size_t entries);
-
-/* Whether two searches report and list the same. */
-bool agree(search_function *a, search_function *b, const struct subject *subject, uint64_t cap, size_t room,
-           struct lists lists);
-
-/* The same with half the comparisons and with half the list of a search of the whole text, where both are cut off. */
-bool agree_when_cut_off(search_function *a, search_function *b, const struct subject *subject, const poqewan_report *whole,
-                        struct lists lists);
-
-/* Seconds that this thread has run: what other programs take of the processor isn't counted. On a virtual machine a run can
-   come out some microseconds too short, as what the host takes is estimated. */
-double now(void);
-
-/* Seconds by the clock on the wall, for the least of many short runs: none comes out too short. */
-double wall_time(void);
+/* The one of library.c or of reference.c. A copy of it, linked by `run`, has a name of its own. */
+extern const struct version version;
 
 #endif

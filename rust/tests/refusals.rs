@@ -141,11 +141,21 @@ fn each_change_of_short_patterns() {
         b"aba",
         b"ab\0",
         b"\0\0\0",
+        b"aabaa",
         b"aabaabaa",
         b"abaababa",
     ] {
         check_each_change(bytes);
     }
+}
+
+/// aacaa has the tables that document 01 gives for aabaa.
+#[test]
+fn a_changed_byte_that_gives_another_true_pattern() {
+    let mut changed = prepared(b"aabaa");
+    changed.bytes[2] = b'c';
+    assert_eq!(changed, Tables::of(b"aacaa").pattern());
+    check_value(&changed);
 }
 
 #[test]
@@ -163,7 +173,10 @@ fn each_change_of_patterns_of_255_bytes() {
 #[test]
 fn each_change_of_patterns_of_256_bytes() {
     check_each_change(&repeated(b"aabaab", 256));
-    check_each_change(&Random::new(34).word(b"ab", 256));
+    let marked = Random::new(34).word(b"ab", 256);
+    let marks = Tables::of(&marked).pattern().marks;
+    assert!(!marks.contains(&0), "marks in all four words");
+    check_each_change(&marked);
 }
 
 #[test]

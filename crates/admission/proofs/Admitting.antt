@@ -6,9 +6,9 @@ use mathlib.Core.Bool.{Bool, true, false}
 use native.Mathlib.Omega.{arith}
 use lib.Dec.{leb}
 use borrow.Author.Tests.{le-leb, lt-leb, leb-true}
-use Rattle.pattern.specs.Check.{isPrepared}
+use Rattle.checked.specs.Check.{isPrepared}
 use Rattle.pattern.specs.declared.Pattern.{Pattern}
-use Rattle.pattern.proofs.Checked.{is-prepared}
+use Rattle.checked.proofs.Checked.{is-prepared}
 use Rattle.refusal.specs.declared.Refusal.the-variants.{FalsePattern, LongText}
 use Rattle.admission.specs.Admitted.{longestText, unless, judged, admitted, IsAdmitted}
 use Rattle.admission.specs.declared.Admission.{Admission}

@@ -2,7 +2,7 @@
 use Prim.Native.Nat.{ℕ, _≤_}
 use mathlib.Core.Bool.{Bool, true, false}
 use lib.Dec.{leb}
-use Rattle.pattern.specs.Check.{isPrepared, IsPrepared}
+use Rattle.checked.specs.Check.{isPrepared, IsPrepared}
 use Rattle.pattern.specs.declared.Pattern.{Pattern}
 use Rattle.refusal.specs.declared.Refusal.{Refusal}
 use Rattle.refusal.specs.declared.Refusal.the-variants.{FalsePattern, LongText}

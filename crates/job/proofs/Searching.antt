@@ -9,14 +9,14 @@ use Rattle.admission.specs.Admitted.{longestText, admitted}
 use Rattle.admission.specs.declared.Admission.the-variants.{Admitted}
 use Rattle.admission.proofs.Admitting.{admitted-of}
 use Rattle.pattern.specs.Sizes.{longestPattern, scratchSize}
-use Rattle.pattern.specs.Check.{ownBytes}
+use Rattle.pattern.specs.Letters.{ownBytes}
 use Rattle.pattern.specs.Letters.{wordOf}
 use Rattle.pattern.specs.Prepared.{patternOf, prepared}
 use Rattle.pattern.specs.declared.Prepared.{Prepared}
 use Rattle.refusal.specs.declared.Refusal.{Refusal}
 use Rattle.pattern.proofs.Answers.{ready, ready-answer}
-use Rattle.pattern.proofs.Again.{own-bytes, prepared-again}
-use Rattle.pattern.proofs.Checked.{is-prepared}
+use Rattle.checked.proofs.Again.{own-bytes, prepared-again}
+use Rattle.checked.proofs.Checked.{is-prepared}
 use Rattle.pattern.proofs.Letters.{word-own, text-own}
 use Rattle.rules.specs.Rules.{End}
 use Rattle.rules.specs.Colussi.{colussi}

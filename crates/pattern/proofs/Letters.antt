@@ -3,8 +3,7 @@ use Prim.Native.Nat.{ℕ}
 use mathlib.Core.Path.{_≡_, refl}
 use mathlib.Core.List.{List}
 use lib.ListN.{length}
-use Rattle.pattern.specs.Check.{ownBytes}
-use Rattle.pattern.specs.Letters.{wordOf, textOf}
+use Rattle.pattern.specs.Letters.{ownBytes, wordOf, textOf}
 use Rattle.pattern.specs.declared.Pattern.{Pattern}
 
 module _ (p : Pattern) where

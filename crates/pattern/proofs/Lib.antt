@@ -6,10 +6,6 @@ pub mod Belows
 pub mod Lists
 pub mod Ranked
 pub mod Bits
-pub mod Same
 pub mod Answers
-pub mod Checked
-pub mod Again
 pub mod Letters
-pub mod Reading
 pub mod Examples

@@ -3,6 +3,5 @@ pub mod Sizes
 pub mod Lists
 pub mod Marks
 pub mod Prepared
-pub mod Check
 pub mod Letters
 pub mod Internal

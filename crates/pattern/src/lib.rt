@@ -1,6 +1,5 @@
-// A pattern prepared for search: document 01's card, its preparation, and the test behind refusal 4.
+// A pattern prepared for search: document 01's card, and its preparation.
 mod build;
-mod check;
 mod counts;
 mod entries;
 mod hmax;
@@ -14,11 +13,9 @@ pub use sizes::LONGEST_PATTERN;
 pub use sizes::RANKS;
 pub use sizes::SCRATCH;
 ghost use mathlib.Core.Path.{_≡_};
-ghost use mathlib.Core.Bool.{true};
-ghost use mathlib.Core.Logic.{_↔_};
 ghost use lib.ListN.{length};
 ghost use Rattle.pattern.specs.Prepared.{outcomeOf, prepared, scratchAfter, unprepared};
-ghost use Rattle.pattern.specs.Check.{isPrepared, IsPrepared};
+ghost use Rattle.pattern.specs.Sizes.{scratchSize};
 
 // Document 01's card: the pattern and its tables. The entries past those defined are 0.
 #[repr(C)]
@@ -100,16 +97,17 @@ pub fn prepare(bytes: &[u8], scratch: &mut [u16]) -> Prepared
     }
 }
 
-// Whether a pattern, whatever it holds, is what preparation gives for its own length and bytes.
-pub fn is_prepared(pattern: Pattern) -> bool
-    ensures test { λ r. ⌜ r ≡ isPrepared pattern ⌝ }
-    ensures meaning { λ r. ⌜ ((r ≡ true) ↔ IsPrepared pattern) ⌝ }
+// The same with a scratch of its own, which nobody needs cleared.
+pub fn prepare_alone(bytes: &[u8]) -> Prepared
+    ensures answer { λ r. ⌜ r ≡ prepared (now (bytes .entry)) scratchSize ⌝ }
 {
-    let again = check::prepared_again(&pattern.bytes, pattern.len);
-    let outcome = again.outcome;
-    let own = again.pattern;
+    let mut scratch = [0u16; SCRATCH];
+    let outcome = outcome_of(bytes, SCRATCH);
     match outcome {
-        Outcome::Ready => check::same_pattern(pattern, own),
-        Outcome::Refused(_why) => false,
+        Outcome::Ready => {
+            let pattern = build::build(bytes, &mut scratch);
+            Prepared { outcome, pattern }
+        }
+        Outcome::Refused(why) => refused(why),
     }
 }

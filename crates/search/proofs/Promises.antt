@@ -9,7 +9,7 @@ use Rattle.admission.specs.Admitted.{IsAdmitted}
 use Rattle.pattern.specs.Letters.{wordOf, textOf}
 use Rattle.pattern.specs.declared.Pattern.{Pattern}
 use Rattle.pattern.proofs.Letters.{length-text}
-use Rattle.pattern.proofs.Reading.{Fields, fields-of}
+use Rattle.checked.proofs.Reading.{Fields, fields-of}
 use Rattle.rules.specs.Rules.{End, Search}
 use Rattle.rules.specs.Colussi.{colussi}
 use Rattle.rules.specs.Kmp.{kmp}

@@ -1,223 +1,71 @@
-// A report against the occurrences that the naive search lists.
-use super::limits::LIST;
-use search::Ending;
-use search::Report;
+// What is asked of a search to the end: the naive search's positions, and a count under the ceiling.
+use super::Run;
 ghost use Prim.Native.Nat.{_≤_};
+ghost use lib.ListN.{length};
 
-// What the entries of a lent list hold before a search: no position of a text here.
-pub const MARK: u32 = 4294967295;
+// The longest text, and a list with an entry to spare.
+pub const TEXT: usize = 400;
 
-pub enum Method {
-    Colussi,
-    Kmp,
-}
+pub const LIST: usize = TEXT + 1;
+// What a list holds before a search: no position of a text here.
+pub const UNWRITTEN: u32 = 4294967295;
 
-// A search that ran: the lengths of the pattern and of the text, the cap, and the size of the list.
-pub struct Run {
-    pub method: Method,
-    pub m: usize,
-    pub n: usize,
-    pub cap: u64,
-    pub size: usize,
-}
+// In place of the window of a spent cap, which is less: the search is done, and neither done nor spent.
+pub const DONE: u64 = LIST as u64;
 
-pub enum Verdict {
-    Done(u64),
-    Spent,
-    Full,
-    Differs,
-}
+pub const NEITHER: u64 = DONE + 1;
 
-fn wide(x: u32) -> usize {
-    x as usize
-}
-
-fn entry(occurrences: &[u32], written: usize, i: usize) -> u32 {
-    if i < written {
-        if i < occurrences.len() {
-            return occurrences[i];
-        }
-    }
-    MARK
-}
-
-// Whether the list begins with the first `written` occurrences and is unchanged after them.
-fn lists(positions: &[u32], occurrences: &[u32], written: usize) -> bool {
-    if occurrences.len() < written {
+fn occurs(bytes: &[u8], text: &[u8], b: usize) -> bool {
+    let m = bytes.len();
+    if text.len() < m {
         return false;
     }
-    let mut i: usize = 0;
-    while i < positions.len() {
-        if positions[i] != entry(occurrences, written, i) {
+    if text.len() - m < b {
+        return false;
+    }
+    check::same(&text[b..b + m], bytes)
+}
+
+// The naive search: whether a list holds the occurrences from its start on, and is unchanged after them.
+fn lists(positions: &[u32; LIST], written: usize, bytes: &[u8], text: &[u8]) -> bool {
+    let mut found: usize = 0;
+    let mut b: usize = 0;
+    while b < LIST {
+        let here = b;
+        b += 1;
+        if written <= here {
+            if positions[here] != UNWRITTEN {
+                return false;
+            }
+        }
+        if !occurs(bytes, text, here) {
+            continue;
+        }
+        if positions[found] != here as u32 {
             return false;
         }
-        i += 1;
+        found += 1;
     }
-    true
+    found == written
 }
 
-// How many occurrences are below b.
-fn count_below(occurrences: &[u32], b: usize) -> usize {
-    let mut i: usize = 0;
-    while i < occurrences.len() {
-        if b <= wide(occurrences[i]) {
-            return i;
-        }
-        i += 1;
-    }
-    i
-}
-
-// Whether the occurrence after the first `written` ones is at b.
-fn is_next(occurrences: &[u32], written: usize, b: usize) -> bool {
-    if written < occurrences.len() {
-        return wide(occurrences[written]) == b;
-    }
-    false
-}
-
-// The ceiling of a search to the end.
-fn ceiling(method: Method, m: usize, n: usize) -> usize
-    requires { ⌜ (m ≤ 256) × (n ≤ 600) ⌝ }
+// How many comparisons a search to the end may make.
+fn ceiling(by_kmp: bool, m: usize, n: usize) -> u64
+    requires { ⌜ n ≤ 400 ⌝ }
 {
     if n < m {
         return 0;
     }
-    match method {
-        Method::Colussi => (3 * n - m) / 2,
-        Method::Kmp => 2 * n - m,
+    if by_kmp {
+        return (2 * n - m) as u64;
     }
+    ((3 * n - m) / 2) as u64
 }
 
-// The ceiling of a search that is cut off at b.
-fn ceiling_at(method: Method, m: usize, b: usize) -> usize
-    requires { ⌜ (m ≤ 256) × (b ≤ 600) ⌝ }
+pub fn is_right(by_kmp: bool, run: Run, positions: &[u32; LIST], bytes: &[u8], text: &[u8]) -> bool
+    requires { ⌜ length (now text) ≤ 400 ⌝ }
 {
-    match method {
-        Method::Colussi => (3 * b + 2 * m) / 2,
-        Method::Kmp => 2 * b + m,
-    }
-}
-
-// What is asked of every search that is cut off at b.
-fn cut_off(run: Run, b: usize, report: Report, occurrences: &[u32]) -> bool
-    requires { ⌜ (run .m ≤ 256) × (run .n ≤ 600) ⌝ }
-{
-    if run.n < run.m {
-        return false;
-    }
-    if run.n - run.m < b {
-        return false;
-    }
-    if count_below(occurrences, b) != report.written {
-        return false;
-    }
-    let method = run.method;
-    report.count <= ceiling_at(method, run.m, b) as u64
-}
-
-fn judge_done(run: Run, report: Report, found: usize) -> Verdict
-    requires { ⌜ (run .m ≤ 256) × (run .n ≤ 600) ⌝ }
-{
-    if report.written != found {
-        return Verdict::Differs;
-    }
-    if run.cap < report.count {
-        return Verdict::Differs;
-    }
-    let method = run.method;
-    if (ceiling(method, run.m, run.n) as u64) < report.count {
-        return Verdict::Differs;
-    }
-    Verdict::Done(report.count)
-}
-
-fn judge_spent(run: Run, b: usize, report: Report, occurrences: &[u32]) -> Verdict
-    requires { ⌜ (run .m ≤ 256) × (run .n ≤ 600) ⌝ }
-{
-    if report.count != run.cap {
-        return Verdict::Differs;
-    }
-    if !cut_off(run, b, report, occurrences) {
-        return Verdict::Differs;
-    }
-    Verdict::Spent
-}
-
-fn judge_full(run: Run, b: usize, report: Report, occurrences: &[u32]) -> Verdict
-    requires { ⌜ (run .m ≤ 256) × (run .n ≤ 600) ⌝ }
-{
-    if report.written != run.size {
-        return Verdict::Differs;
-    }
-    if run.cap < report.count {
-        return Verdict::Differs;
-    }
-    if !is_next(occurrences, report.written, b) {
-        return Verdict::Differs;
-    }
-    if !cut_off(run, b, report, occurrences) {
-        return Verdict::Differs;
-    }
-    Verdict::Full
-}
-
-// `positions` is the whole list, of which the search was lent a part.
-pub fn judge(run: Run, report: Report, positions: &[u32; LIST], occurrences: &[u32]) -> Verdict
-    requires { ⌜ (run .m ≤ 256) × (run .n ≤ 600) ⌝ }
-{
-    if run.size < report.written {
-        return Verdict::Differs;
-    }
-    if !lists(positions, occurrences, report.written) {
-        return Verdict::Differs;
-    }
-    let ending = report.ending;
-    match ending {
-        Ending::Done => judge_done(run, report, occurrences.len()),
-        Ending::Spent(b) => judge_spent(run, b, report, occurrences),
-        Ending::Full(b) => judge_full(run, b, report, occurrences),
-    }
-}
-
-// How a search ends follows from its limits, the full count and the number of occurrences: spent only with a cap below the
-// count, full only with a list below the number, and done with the full count only where neither is so.
-fn is_due(verdict: Verdict, cap: u64, size: usize, full: u64, found: usize) -> bool {
-    match verdict {
-        Verdict::Done(count) => {
-            if cap < full {
-                return false;
-            }
-            if size < found {
-                return false;
-            }
-            count == full
-        }
-        Verdict::Spent => cap < full,
-        Verdict::Full => size < found,
-        Verdict::Differs => false,
-    }
-}
-
-// The verdict, where it is one that the limits allow.
-pub fn due(verdict: Verdict, cap: u64, size: usize, full: u64, found: usize) -> Verdict {
-    if is_due(verdict, cap, size, full, found) {
-        return verdict;
-    }
-    Verdict::Differs
-}
-
-// Whether two lists are the same.
-pub fn same<'a>(xs: &'a [u32], ys: &'a [u32]) -> bool {
-    if xs.len() != ys.len() {
-        return false;
-    }
-    let mut i: usize = 0;
-    while i < xs.len() {
-        if xs[i] != ys[i] {
-            return false;
-        }
-        i += 1;
-    }
-    true
+    run.end == DONE
+        && run.count <= ceiling(by_kmp, bytes.len(), text.len())
+        && lists(positions, run.written as usize, bytes, text)
 }

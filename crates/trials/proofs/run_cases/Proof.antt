@@ -5,31 +5,10 @@ use Rattle.trials.proofs.run_cases.Statement.{statement}
 use Rattle.trials.proofs.run_cases.Tie as tie
 
 abbrev Inv-loop : tie.InvT-loop
-Inv-loop totals₀ number₀ totals number = number ≤ 4096
+Inv-loop by_kmp name tally₀ case₀ tally case = case ≤ 4000
 
 abbrev μ-loop : tie.MeasureT-loop
-μ-loop totals₀ number₀ totals number = 4096 - number
-
-none-requires : tie.Need-none-requires Inv-loop μ-loop
-none-requires c κs = search needs
-
-loop-holds : tie.Need-loop-holds Inv-loop μ-loop
-loop-holds c = search needs
-
-run-case-requires : tie.Need-run-case-requires Inv-loop μ-loop
-run-case-requires c κs = search needs
-
-add-number : tie.Need-add-number Inv-loop μ-loop
-add-number c = search needs
-
-loop-less : tie.Need-loop-less Inv-loop μ-loop
-loop-less c = search needs
-
-loop-again : tie.Need-loop-again Inv-loop μ-loop
-loop-again c = search needs
-
-returns : tie.Need-returns Inv-loop μ-loop
-returns c = search needs
+μ-loop by_kmp name tally₀ case₀ tally case = 4000 - case
 
 pub run-cases-spec : {M : Type 1} → statement M
 run-cases-spec =
@@ -37,10 +16,13 @@ run-cases-spec =
     (tie.spec
     Inv-loop
     μ-loop
-    none-requires
-    loop-holds
-    run-case-requires
-    add-number
-    loop-less
-    loop-again
-    returns)
+    (λ c κs. search needs)
+    (λ c. search needs)
+    (λ c κs. search needs)
+    (λ c κs. search needs)
+    (λ c. search needs)
+    (λ c. search needs)
+    (λ c. search needs)
+    (λ c κs. search needs)
+    (λ c κs. search needs)
+    (λ c. search needs))

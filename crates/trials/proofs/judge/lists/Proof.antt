@@ -1,45 +1,15 @@
--- The index stays within the list. The measure is what is left of it. Assumes nothing.
+-- No more occurrences are found than windows passed, and no more windows are passed than the list has entries. The measure is how many
+-- entries are left. Assumes nothing.
 use Prim.Native.Nat.{_≤_, _-_}
-use lib.ListN.{length}
 use borrow.Author.Needs.{needs}
 use Rattle.trials.proofs.judge.lists.Statement.{statement}
 use Rattle.trials.proofs.judge.lists.Tie as tie
 
 abbrev Inv-loop : tie.InvT-loop
-Inv-loop positions occurrences written i₀ i = i ≤ length positions
+Inv-loop positions written bytes text found₀ b₀ found b = (b ≤ 401) × (found ≤ b)
 
 abbrev μ-loop : tie.MeasureT-loop
-μ-loop positions occurrences written i₀ i = length positions - i
-
-returns : tie.Need-returns Inv-loop μ-loop
-returns c = search needs
-
-loop-holds : tie.Need-loop-holds Inv-loop μ-loop
-loop-holds c = search needs
-
-mul-if2 : tie.Need-mul-if2 Inv-loop μ-loop
-mul-if2 c = search needs
-
-shared-slice-read-if2 : tie.Need-shared-slice-read-if2 Inv-loop μ-loop
-shared-slice-read-if2 c = search needs
-
-entry-requires : tie.Need-entry-requires Inv-loop μ-loop
-entry-requires c κs = search needs
-
-returns-2 : tie.Need-returns-2 Inv-loop μ-loop
-returns-2 c = search needs
-
-add-i : tie.Need-add-i Inv-loop μ-loop
-add-i c = search needs
-
-loop-less : tie.Need-loop-less Inv-loop μ-loop
-loop-less c = search needs
-
-loop-again : tie.Need-loop-again Inv-loop μ-loop
-loop-again c = search needs
-
-returns-3 : tie.Need-returns-3 Inv-loop μ-loop
-returns-3 c = search needs
+μ-loop positions written bytes text found₀ b₀ found b = 401 - b
 
 pub lists-spec : {M : Type 1} → statement M
 lists-spec =
@@ -47,13 +17,19 @@ lists-spec =
     (tie.spec
     Inv-loop
     μ-loop
-    returns
-    loop-holds
-    mul-if2
-    shared-slice-read-if2
-    entry-requires
-    returns-2
-    add-i
-    loop-less
-    loop-again
-    returns-3)
+    (λ c. search needs)
+    (λ c. search needs)
+    (λ c. search needs)
+    (λ c. search needs)
+    (λ c. search needs)
+    (λ c κs. search needs)
+    (λ c. search needs)
+    (λ c. search needs)
+    (λ c. search needs)
+    (λ c. search needs)
+    (λ c. search needs)
+    (λ c. search needs)
+    (λ c. search needs)
+    (λ c. search needs)
+    (λ c. search needs)
+    (λ c. search needs))

@@ -1,0 +1,226 @@
+#include "rows.h"
+
+#include <stdio.h>
+#include <stdlib.h>
+#include <string.h>
+
+#define EXTERN(side) side##_0, side##_16, side##_32, side##_48, side##_64, side##_80, side##_96, side##_112
+#define COPIES_OF(side) {&side##_0, &side##_16, &side##_32, &side##_48, &side##_64, &side##_80, &side##_96, &side##_112}
+extern const struct version EXTERN(ours), EXTERN(other);
+const struct version *const versions[SIDES][COPIES] = {COPIES_OF(ours), COPIES_OF(other)};
+
+/* Inputs. */
+
+struct subject subjects[IN_TURN];
+struct lists lists;
+
+/* Memory that was written once, so that no measurement pays for the first touch of a page. */
+static void *touched(size_t bytes)
+{
+    void *memory = malloc(bytes);
+    if (memory == NULL) {
+        fputs("bench: no memory\n", stderr);
+        exit(1);
+    }
+    return memset(memory, 1, bytes);
+}
+
+static size_t subjects_of(const struct input *input)
+{
+    return input->kind != NULL ? 1 : IN_TURN;
+}
+
+void make(const struct input *input)
+{
+    static uint8_t *text, bytes[IN_TURN][POQEWAN_LONGEST_PATTERN];
+    if (text == NULL) {
+        text = touched(POQEWAN_LONGEST_TEXT);
+        lists.one = touched(POQEWAN_LONGEST_TEXT * sizeof *lists.one);
+        lists.other = touched(POQEWAN_LONGEST_TEXT * sizeof *lists.other);
+    }
+    if (input->kind != NULL)
+        make_input(input->kind, bytes[0], input->m, text, input->size->n, input->number);
+    else
+        make_in_turn(input->family, bytes, input->m);
+    for (size_t i = 0; i < subjects_of(input); i++) {
+        uint16_t scratch[POQEWAN_SCRATCH];
+        subjects[i].pattern = versions[OURS][0]->prepare(bytes[i], input->m, scratch, POQEWAN_SCRATCH).pattern;
+        subjects[i].text = text;
+        subjects[i].n = input->kind != NULL ? input->size->n : 0;
+    }
+}
+
+/* The works of both sides. */
+
+static void run_colussi(int side, int copy)
+{
+    versions[side][copy]->colussi(&subjects[0], UINT64_MAX, lists.one, subjects[0].n);
+}
+
+static void run_kmp(int side, int copy)
+{
+    versions[side][copy]->kmp(&subjects[0], UINT64_MAX, lists.one, subjects[0].n);
+}
+
+static void run_preparation(int side, int copy)
+{
+    uint16_t scratch[POQEWAN_SCRATCH];
+    for (size_t i = 0; i < IN_TURN; i++)
+        versions[side][copy]->prepare(subjects[i].pattern.bytes, subjects[i].pattern.len, scratch, POQEWAN_SCRATCH);
+}
+
+/* The search of an empty text does nothing else. */
+static void run_check(int side, int copy)
+{
+    for (size_t i = 0; i < IN_TURN; i++)
+        versions[side][copy]->colussi(&subjects[i], 0, NULL, 0);
+}
+
+static const struct work colussi = {"Colussi", run_colussi}, kmp = {"KMP", run_kmp};
+static const struct work preparation = {"preparation", run_preparation}, check = {"check", run_check};
+
+/* The rows. */
+
+struct row rows[ROWS];
+struct row *const longest_texts = rows + TEXTS - COUNT_OF(kinds);
+
+void add_trial(struct row *row, const struct work *work, int variants, struct share share)
+{
+    struct trial *trial = &row->trial[row->trials++];
+    trial->work = work;
+    trial->variants = variants;
+    trial->share = share;
+}
+
+static void set_text_row(struct row *row, size_t kind, size_t size, size_t m)
+{
+    static const struct share shares[COUNT_OF(sizes)] = {
+        {1, 2, COPIES, wall_time}, {1, 1, COPIES, thread_time}, {8, 1, COPIES / 2, thread_time}};
+    row->input = (struct input){.kind = &kinds[kind], .size = &sizes[size], .m = m, .number = m};
+    add_trial(row, &colussi, SIDES, shares[size]);
+    add_trial(row, &kmp, SIDES, shares[size]);
+}
+
+static void set_patterns_row(struct row *row, size_t family, size_t m)
+{
+    static const struct share share = {4, 3, COPIES, wall_time};
+    const int sides = versions[OTHER][0]->prepare != NULL ? SIDES : 1;
+    row->input = (struct input){.family = &families[family], .m = m};
+    add_trial(row, &preparation, sides, share);
+    add_trial(row, &check, sides, share);
+}
+
+void set_rows(void)
+{
+    struct row *row = rows;
+    for (size_t k = 0; k < COUNT_OF(kinds); k++)
+        for (size_t l = 0; l < COUNT_OF(lengths); l++)
+            set_text_row(row++, k, 0, lengths[l]);
+    for (size_t s = 1; s < COUNT_OF(sizes); s++)
+        for (size_t k = 0; k < COUNT_OF(kinds); k++)
+            set_text_row(row++, k, s, LENGTH_IN_LONG_TEXTS);
+    for (size_t f = 0; f < COUNT_OF(families); f++)
+        for (size_t l = 0; l < COUNT_OF(lengths_of_patterns); l++)
+            set_patterns_row(row++, f, lengths_of_patterns[l]);
+}
+
+const char *name_of(const struct row *row)
+{
+    return row->input.kind != NULL ? row->input.kind->name : row->input.family->name;
+}
+
+const char *size_name_of(const struct row *row)
+{
+    return row->input.kind != NULL ? row->input.size->name : "";
+}
+
+/* The check that comes before. */
+
+bool sides_agree(const struct subject *subject)
+{
+    return versions_agree(versions[OURS][0], versions[OTHER][0], subject, lists);
+}
+
+static bool agree_on_row(const struct row *row, bool (*agree)(const struct subject *subject))
+{
+    make(&row->input);
+    for (size_t i = 0; i < subjects_of(&row->input); i++)
+        if (!agree(&subjects[i]))
+            return false;
+    return true;
+}
+
+bool agree_on_rows(bool (*agree)(const struct subject *subject))
+{
+    bool agreed = true;
+    for (const struct row *row = rows; row < rows + ROWS; row++)
+        if (!agree_on_row(row, agree)) {
+            printf("DIFFERS: %s, %s, m = %zu\n", name_of(row), row->input.kind != NULL ? size_name_of(row) : "no text",
+                   row->input.m);
+            agreed = false;
+        }
+    return agreed;
+}
+
+/* The measurements. */
+
+static void measure(struct row *row, int round)
+{
+    bool made = false;
+    for (struct trial *trial = row->trial; trial < row->trial + row->trials; trial++)
+        if (has_round(trial, round)) {
+            if (!made)
+                make(&row->input);
+            made = true;
+            take_turns(trial, round);
+        }
+}
+
+void measure_rows(void)
+{
+    for (int round = 0; round < ROUNDS; round++)
+        for (struct row *row = rows; row < rows + ROWS; row++)
+            measure(row, round);
+    for (struct row *row = rows; row < rows + ROWS; row++)
+        for (int t = 0; t < row->trials; t++)
+            summarise(&row->trial[t]);
+}
+
+/* The table. */
+
+void print_head_of_ratios(const char *other, const char *ours)
+{
+    printf("| work        | text, pattern         | n      | m   | %-8s | %-8s | least | tenth | pairs |\n"
+           "|-------------|-----------------------|-------:|----:|---------:|---------:|------:|------:|------:|\n",
+           other, ours);
+}
+
+static void print_row(const struct row *row, const struct trial *trial)
+{
+    const double *ratios = trial->times[OTHER].ratios;
+    const double nanoseconds = 1e9 / (row->input.kind != NULL ? (double)row->input.size->n : IN_TURN);
+    printf("| %-11s | %-21s | %6s | %3zu | %8.3f | %8.3f | %5.3f | %5.3f | %5.3f |\n", trial->work->name, name_of(row),
+           size_name_of(row), row->input.m, trial->times[OTHER].least * nanoseconds, trial->times[OURS].least * nanoseconds,
+           ratios[LEAST], ratios[TENTH], ratios[PAIRS]);
+}
+
+void print_ratios(const struct row *from, size_t count)
+{
+    for (int t = 0; t < 2; t++) {
+        double means[RATIOS] = {1, 1, 1};
+        for (const struct row *row = from; row < from + count; row++) {
+            print_row(row, &row->trial[t]);
+            for (enum ratio ratio = 0; ratio < RATIOS; ratio++)
+                into_mean(&means[ratio], row->trial[t].times[OTHER].ratios[ratio], count);
+        }
+        printf("| %-11s | mean                  | %6s |     |          |          | %5.3f | %5.3f | %5.3f |\n",
+               from->trial[t].work->name, size_name_of(from), means[LEAST], means[TENTH], means[PAIRS]);
+    }
+}
+
+void print_text_ratios(void)
+{
+    print_ratios(rows, SHORT_TEXTS);
+    for (const struct row *of_size = rows + SHORT_TEXTS; of_size < rows + TEXTS; of_size += COUNT_OF(kinds))
+        print_ratios(of_size, COUNT_OF(kinds));
+}

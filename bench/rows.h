@@ -1,0 +1,64 @@
+/* What is measured: the two sides that are compared, the rows that they are compared on, and the table of their ratios. */
+#ifndef ROWS_H
+#define ROWS_H
+
+#include "agreement.h"
+#include "inputs.h"
+#include "turns.h"
+
+enum side { OURS, OTHER, SIDES };
+extern const struct version *const versions[SIDES][COPIES];
+
+/* What is searched: a pattern in a text; or many patterns in turn, and no text. */
+struct input {
+    const struct kind *kind; /* with the size of the text; or none, and then */
+    const struct size *size;
+    const struct family *family;
+    size_t m;
+    uint64_t number; /* that the generator starts with, if there is a text */
+};
+
+/* Makes an input. Its patterns, or its only one, are then in `subjects`, and the lists have an entry for each byte. */
+void make(const struct input *input);
+extern struct subject subjects[IN_TURN];
+extern struct lists lists;
+
+/* The trials of every text and of all patterns. What a program adds comes after. */
+enum { COLUSSI, KMP, ADDED, MOST_TRIALS = ADDED + 2 };
+enum { PREPARATION, CHECK };
+
+struct row {
+    struct input input;
+    int trials;
+    struct trial trial[MOST_TRIALS];
+};
+
+/* The rows: short texts; longer ones, each with one length of pattern; and patterns. */
+#define LENGTH_IN_LONG_TEXTS 16
+#define SHORT_TEXTS (COUNT_OF(kinds) * COUNT_OF(lengths))
+#define TEXTS (SHORT_TEXTS + COUNT_OF(kinds) * (COUNT_OF(sizes) - 1))
+#define PATTERNS (COUNT_OF(families) * COUNT_OF(lengths_of_patterns))
+#define ROWS (TEXTS + PATTERNS)
+extern struct row rows[ROWS];
+extern struct row *const longest_texts; /* one of each kind */
+
+/* Sets the rows: both searches by both sides in texts; preparation and the check of patterns by the sides that have them. */
+void set_rows(void);
+void add_trial(struct row *row, const struct work *work, int variants, struct share share);
+
+/* Whether that is so of every subject of every row. A row of which it isn't is printed. */
+bool agree_on_rows(bool (*agree)(const struct subject *subject));
+bool sides_agree(const struct subject *subject);
+
+void measure_rows(void);
+
+const char *name_of(const struct row *row);
+const char *size_name_of(const struct row *row);
+
+/* The table of the first two trials of rows: its head, with the names of both sides; and lines with the least times in
+   nanoseconds, a byte or a call, and the ratios, with geometric means at the end: of rows, and of the texts of each size. */
+void print_head_of_ratios(const char *other, const char *ours);
+void print_ratios(const struct row *from, size_t count);
+void print_text_ratios(void);
+
+#endif

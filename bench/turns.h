@@ -1,0 +1,62 @@
+/*
+ * Trials, in which what is compared takes turns: one short run each on the same memory, with either first in turn; and a trial
+ * has its turns in many rounds, spread over the whole time. For the machine has slow spells, which hit whatever runs in them: the
+ * runs of a turn meet the same one, and some rounds meet none.
+ */
+#ifndef TURNS_H
+#define TURNS_H
+
+#include <stdbool.h>
+#include <stddef.h>
+
+/* What is measured is linked in so many copies, each shifted by 16 bytes against the last: where a loop lies in the lines of the
+   cache can double its time, and nothing shall gain by that. A round runs one copy. */
+#define COPIES 8
+
+/* What is done by the variants that take turns. */
+struct work {
+    const char *name;
+    void (*run)(int variant, int copy);
+};
+
+/* Every so many rounds, so many turns of one of so many copies. Few turns: those of a round meet the same slow spell or quiet
+   moment, so that many rounds tell more than many turns. Short runs go by the clock on the wall; a long one is hardly ever left
+   alone, and goes by what the thread has run. */
+struct share {
+    int every, turns, copies;
+    double (*clock)(void);
+};
+
+#define ROUNDS 256    /* a power of two, as all of a share but the turns, so that every copy has as many */
+#define MOST_TURNS 64 /* of a copy */
+#define MOST_VARIANTS 3
+
+double wall_time(void);   /* seconds; none comes out too short */
+double thread_time(void); /* the same without what other programs take; on a virtual machine some microseconds off */
+
+/* The time of a variant to that of the first: by the least times; by the means of the fastest tenth, which one lucky run hardly
+   moves; and the median over the turns, which counts the slow spells in. Each is the geometric mean over the copies. */
+enum ratio { LEAST, TENTH, PAIRS, RATIOS };
+
+struct times {
+    double least, tenth; /* seconds, again as means over the copies */
+    double ratios[RATIOS];
+};
+
+struct trial {
+    const struct work *work;
+    int variants;
+    struct share share;
+    size_t turns[COPIES]; /* so far */
+    double seconds[MOST_VARIANTS][COPIES][MOST_TURNS]; /* sorted in the end */
+    struct times times[MOST_VARIANTS];                 /* in the end */
+};
+
+bool has_round(const struct trial *trial, int round);
+void take_turns(struct trial *trial, int round);
+void summarise(struct trial *trial);
+
+/* Multiplies a geometric mean by its part of one number out of so many. */
+void into_mean(double *mean, double number, size_t of);
+
+#endif

@@ -1,0 +1,42 @@
+-- When a pattern is prepared, as the test decides it. Assumes nothing.
+use mathlib.Core.Path.{_≡_, refl, sym, ap, _∙_}
+use mathlib.Core.Logic.{_↔_}
+use mathlib.Core.Bool.{Bool, true, false}
+use Rattle.words.proofs.Cases.{not-both}
+use Rattle.pattern.specs.Sizes.{scratchSize}
+use Rattle.pattern.specs.Prepared.{prepared}
+use Rattle.checked.specs.Check.{samePattern, preparedAgain, isPrepared, IsPrepared}
+use Rattle.pattern.specs.Letters.{ownBytes}
+use Rattle.pattern.specs.declared.Pattern.{Pattern}
+use Rattle.pattern.specs.declared.Outcome.{Outcome}
+use Rattle.pattern.specs.declared.Outcome.the-variants.{Ready, Refused}
+use Rattle.pattern.specs.declared.Prepared.{Prepared}
+use Rattle.checked.proofs.Same.{same-pattern}
+
+-- An answer is ready, and its pattern is the same as p.
+abbrev matches : Pattern → Prepared → Bool
+matches p a = elim (a .outcome) [ Ready ↦ samePattern p (a .pattern) | Refused why ↦ false ]
+
+matches-iff : (p : Pattern) (a : Prepared) → (matches p a ≡ true) ↔ (a ≡ record { outcome = Ready; pattern = p })
+matches-iff p a = go (a .outcome) (a .pattern)
+  where
+    go : (o : Outcome) (q : Pattern) → (matches p record { outcome = o; pattern = q } ≡ true)
+        ↔ (_≡_ {A = Prepared} (record { outcome = o; pattern = q }) (record { outcome = Ready; pattern = p }))
+    go Ready q = (
+      λ e. rw (same-pattern p q .0 e) refl,
+      λ e. same-pattern p q .1 (sym (ap (λ (b : Prepared). b .pattern) e)),
+    )
+    go (Refused why) q = (
+      λ e. absurd (not-both false e refl),
+      λ e. let o : Refused why ≡ Ready = ap (λ (b : Prepared). b .outcome) e in cc,
+    )
+
+module _ (p : Pattern) where
+  pub is-prepared : (isPrepared p ≡ true) ↔ IsPrepared p
+  unfolding isPrepared IsPrepared
+  is-prepared = matches-iff p (preparedAgain p)
+
+  -- What `is_prepared` ensures of its answer r, where preparation answered a to the pattern's own bytes.
+  pub tested : {a : Prepared} {r : Bool} → a ≡ prepared (ownBytes p) scratchSize → r ≡ matches p a → (r ≡ isPrepared p) × ((r ≡ true) ↔ IsPrepared p)
+  unfolding isPrepared
+  tested {a} {r} again e = let test : r ≡ isPrepared p = e ∙ ap (matches p) again in (test, rw test is-prepared)

@@ -1,0 +1,75 @@
+-- What a reader of a prepared pattern finds in its fields: the promise that a search builds on. Assumes nothing.
+use Prim.Native.Nat.{ℕ, suc, _≤_, _<_}
+use mathlib.Core.Path.{_≡_, refl, sym, ap, _∙_}
+use mathlib.Core.List.{List}
+use native.Mathlib.Omega.{arith}
+use lib.ListN.{length, getD}
+use Rattle.words.specs.Tables.{noholes, order, place, shift, next}
+use Rattle.words.proofs.Ranks.{length-order}
+use Rattle.pattern.specs.Sizes.{longestPattern, ranks, scratchSize}
+use Rattle.pattern.specs.Lists.{tabulate, padded}
+use Rattle.pattern.specs.Prepared.{patternOf, unprepared, outcomeOf}
+use Rattle.checked.specs.Check.{preparedAgain, IsPrepared}
+use Rattle.pattern.specs.Letters.{ownBytes, wordOf}
+use Rattle.pattern.specs.declared.Pattern.{Pattern}
+use Rattle.pattern.specs.declared.Outcome.{Outcome}
+use Rattle.pattern.specs.declared.Outcome.the-variants.{Ready, Refused}
+use Rattle.pattern.specs.declared.Prepared.{Prepared}
+use Rattle.pattern.proofs.Lists.{length-tabulate, length-padded, padded-at, padded-tabulate-at}
+use Rattle.pattern.proofs.Answers.{refused-answer, ready-answer, ready-sizes}
+
+pub record Fields (p : Pattern) : Type 0 where
+  pub some : 1 ≤ p .len
+  pub short : p .len ≤ longestPattern
+  pub word : length (wordOf p) ≡ p .len
+  pub noholes : p .noholes ≡ noholes (wordOf p)
+  pub length-bytes : length (p .bytes) ≡ longestPattern
+  pub length-order : length (p .order) ≡ longestPattern
+  pub length-shift : length (p .shift) ≡ ranks
+  pub length-next : length (p .next) ≡ ranks
+  pub place-at : (i : ℕ) → i < p .len → getD (p .order) i 0 ≡ place (wordOf p) i
+  pub shift-at : (i : ℕ) → i ≤ p .len → getD (p .shift) i 0 ≡ shift (wordOf p) i
+  pub next-at : (i : ℕ) → i ≤ p .len → getD (p .next) i 0 ≡ next (wordOf p) i
+
+-- A prepared pattern is the pattern of its own bytes, which were not refused.
+prepared-is : (p : Pattern) → IsPrepared p → (outcomeOf (ownBytes p) scratchSize ≡ Ready) × (p ≡ patternOf (ownBytes p))
+unfolding IsPrepared preparedAgain unprepared
+prepared-is p G = go (outcomeOf (ownBytes p) scratchSize) refl
+  where
+    go : (o : Outcome) → outcomeOf (ownBytes p) scratchSize ≡ o → (outcomeOf (ownBytes p) scratchSize ≡ Ready) × (p ≡ patternOf (ownBytes p))
+    go Ready e = (e, ap (λ (a : Prepared). a .pattern) (sym G ∙ ready-answer (ownBytes p) scratchSize e))
+    go (Refused why) e =
+        let o : Refused why ≡ Ready = ap (λ (a : Prepared). a .outcome) (sym (refused-answer (ownBytes p) scratchSize e) ∙ G) in
+        absurd (let z : _≡_ {A = ℕ} 0 1 = cc in omega arith)
+
+-- A table of m + 1 entries.
+by-rank : (w : List ℕ) (f : ℕ → ℕ) {l : List ℕ} → length w ≤ longestPattern → l ≡ padded ranks (tabulate (suc (length w)) f)
+    → (length l ≡ ranks) × ((i : ℕ) → i ≤ length w → getD l i 0 ≡ f i)
+by-rank w f short e = (
+  ap length e ∙ length-padded ranks _ (omega (arith, length-tabulate (suc (length w)) f)),
+  λ i l. ap (λ (x : List ℕ). getD x i 0) e ∙ padded-tabulate-at ranks (suc (length w)) f i (omega arith),
+)
+
+pub fields-of : (p : Pattern) → IsPrepared p → Fields p
+unfolding wordOf patternOf place
+fields-of p G =
+    let w = ownBytes p in
+    let is = prepared-is p G .1 in
+    let sizes = ready-sizes w scratchSize (prepared-is p G .0) in
+    let len : p .len ≡ length w = ap (λ (q : Pattern). q .len) is in
+    let orders : p .order ≡ padded longestPattern (order w) = ap (λ (q : Pattern). q .order) is in
+    let shifts = by-rank w (shift w) (sizes .1) (ap (λ (q : Pattern). q .shift) is) in
+    let nexts = by-rank w (next w) (sizes .1) (ap (λ (q : Pattern). q .next) is) in
+    record {
+      some = omega arith;
+      short = omega arith;
+      word = sym len;
+      noholes = ap (λ (q : Pattern). q .noholes) is;
+      length-bytes = ap (λ (q : Pattern). length (q .bytes)) is ∙ length-padded longestPattern w (sizes .1);
+      length-order = ap length orders ∙ length-padded longestPattern (order w) (omega (arith, length-order w));
+      length-shift = shifts .0;
+      length-next = nexts .0;
+      place-at = λ i l. ap (λ (x : List ℕ). getD x i 0) orders ∙ padded-at longestPattern (order w) i (omega (arith, length-order w));
+      shift-at = λ i l. shifts .1 i (omega arith);
+      next-at = λ i l. nexts .1 i (omega arith);
+    }

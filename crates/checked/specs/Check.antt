@@ -1,0 +1,42 @@
+-- When a pattern is one that preparation gives: the test behind refusal 4 of document 01.
+use Prim.Native.Nat.{ℕ}
+use mathlib.Core.Path.{_≡_}
+use mathlib.Core.Bool.{Bool, true, false, _&&_}
+use mathlib.Core.List.{List, [], _∷_}
+use lib.Dec.{eqb}
+use Rattle.pattern.specs.Sizes.{scratchSize}
+use Rattle.pattern.specs.Prepared.{prepared}
+use Rattle.pattern.specs.Letters.{ownBytes}
+use Rattle.pattern.specs.declared.Pattern.{Pattern}
+use Rattle.pattern.specs.declared.Outcome.{Outcome}
+use Rattle.pattern.specs.declared.Outcome.the-variants.{Ready, Refused}
+use Rattle.pattern.specs.declared.Prepared.{Prepared}
+
+unfoldable pub sameList : List ℕ → List ℕ → Bool
+sameList [] [] = true
+sameList [] (y ∷ t) = false
+sameList (x ∷ s) [] = false
+sameList (x ∷ s) (y ∷ t) = eqb x y && sameList s t
+
+-- Two patterns are the same in every field.
+unfoldable pub samePattern : Pattern → Pattern → Bool
+unfolding sameList
+samePattern a b =
+    eqb (a .len) (b .len) && (eqb (a .noholes) (b .noholes)
+    && (sameList (a .bytes) (b .bytes) && (sameList (a .order) (b .order)
+    && (sameList (a .shift) (b .shift) && (sameList (a .next) (b .next) && sameList (a .marks) (b .marks))))))
+
+-- What preparation answers to them, with a scratch that is long enough. (Of a length above 256 these are 256 bytes, and their pattern
+-- differs from p in its length.)
+unfoldable pub preparedAgain : Pattern → Prepared
+unfolding prepared
+preparedAgain p = prepared (ownBytes p) scratchSize
+
+-- As a test: it is not refused, and no field differs.
+unfoldable pub isPrepared : Pattern → Bool
+unfolding preparedAgain samePattern
+isPrepared p = elim (preparedAgain p .outcome) [ Ready ↦ samePattern p (preparedAgain p .pattern) | Refused why ↦ false ]
+
+-- In plain terms.
+unfoldable pub IsPrepared : Pattern → Type 0
+IsPrepared p = preparedAgain p ≡ record { outcome = Ready; pattern = p }

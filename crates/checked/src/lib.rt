@@ -1,0 +1,44 @@
+// The test behind refusal 4: a pattern's own bytes are prepared again, and every field is compared.
+mod fields;
+
+use pattern::Outcome;
+use pattern::Pattern;
+use pattern::Prepared;
+use pattern::prepare_alone;
+ghost use mathlib.Core.Path.{_≡_};
+ghost use mathlib.Core.Bool.{true};
+ghost use mathlib.Core.Logic.{_↔_};
+ghost use Prim.Native.Nat.{min};
+ghost use lib.ListN.{take};
+ghost use Rattle.pattern.specs.Sizes.{scratchSize};
+ghost use Rattle.pattern.specs.Prepared.{prepared};
+ghost use Rattle.checked.specs.Check.{isPrepared, IsPrepared};
+
+// The lesser of two numbers.
+fn least(a: usize, b: usize) -> usize
+    ensures { λ r. ⌜ r ≡ min a b ⌝ }
+{
+    if a < b { a } else { b }
+}
+
+// What preparation answers to the first len bytes.
+fn prepared_again(bytes: &[u8], len: usize) -> Prepared
+    ensures { λ r. ⌜ r ≡ prepared (take len (now (bytes .entry))) scratchSize ⌝ }
+{
+    let taken = least(len, bytes.len());
+    prepare_alone(&bytes[..taken])
+}
+
+// Whether a pattern, whatever it holds, is what preparation gives for its own length and bytes.
+pub fn is_prepared(pattern: Pattern) -> bool
+    ensures test { λ r. ⌜ r ≡ isPrepared pattern ⌝ }
+    ensures meaning { λ r. ⌜ ((r ≡ true) ↔ IsPrepared pattern) ⌝ }
+{
+    let again = prepared_again(&pattern.bytes, pattern.len);
+    let outcome = again.outcome;
+    let own = again.pattern;
+    match outcome {
+        Outcome::Ready => fields::same_pattern(pattern, own),
+        Outcome::Refused(_why) => false,
+    }
+}
