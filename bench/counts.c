@@ -11,7 +11,7 @@
 
 /* The last comes nearest to the ceiling: `worst` finds no greater count for any short pattern of two letters in any text. */
 static const struct kind counted_kinds[] = {
-    {"random, 256 letters", random_256, text_of_256},
+    {"random, 256 letters", random_255, text_of_256},
     {"random, 4 letters", random_4, text_of_4},
     {"random, 2 letters", random_2, text_of_2},
     {"a^m, in a^n", one_letter, equal_text},

@@ -33,9 +33,9 @@ static void random_letters(uint8_t *bytes, size_t len, unsigned letters, uint8_t
         bytes[i] = (uint8_t)(first + below(letters));
 }
 
-void random_256(uint8_t *bytes, size_t m)
+void random_255(uint8_t *bytes, size_t m)
 {
-    random_letters(bytes, m, 256, 0);
+    random_letters(bytes, m, 255, 1);
 }
 
 void random_4(uint8_t *bytes, size_t m)
@@ -182,7 +182,8 @@ static void put(struct rest *rest, size_t level)
 }
 
 /* Seat after seat: reflections that fall off with some scatter; a flutter of up to about two patterns, in which now and then
-   a reflection is lost; and noise. Losses are rarer for longer patterns, or those would never occur. */
+   a reflection is lost; noise; and a byte 0, which closes the seat. Losses are rarer for longer patterns, or those would never
+   occur. */
 void record_text(const uint8_t *bytes, size_t m, uint8_t *text, size_t n)
 {
     (void)bytes;
@@ -200,11 +201,12 @@ void record_text(const uint8_t *bytes, size_t m, uint8_t *text, size_t n)
         }
         for (size_t quiet = 5 + below(21); quiet > 0; quiet--)
             put(&rest, 1 + below(20));
+        put(&rest, 0);
     }
 }
 
 const struct kind kinds[7] = {
-    {"random, 256 letters", random_256, text_of_256},
+    {"random, 256 letters", random_255, text_of_256},
     {"random, 4 letters", random_4, text_of_4},
     {"random, 2 letters", random_2, text_of_2},
     {"a^n, a^(m-1)b", last_differs, equal_text},
@@ -218,7 +220,7 @@ const struct size sizes[3] = {{"64 KiB", 65536}, {"1 MiB", 1048576}, {"16 MiB", 
 const size_t lengths[4] = {4, 16, 64, 256};
 
 const struct family families[7] = {
-    {"random, 256 letters", random_256}, {"random, 4 letters", random_4}, {"random, 2 letters", random_2},
+    {"random, 255 letters", random_255}, {"random, 4 letters", random_4}, {"random, 2 letters", random_2},
     {"one letter", one_letter},          {"a^(m-1)b", last_differs},      {"period 3", period_3},
     {"Fibonacci word", fibonacci},
 };

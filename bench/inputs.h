@@ -6,7 +6,7 @@
 
 /* Families of patterns: each writes m bytes. */
 typedef void pattern_maker(uint8_t *bytes, size_t m);
-pattern_maker random_256; /* random letters out of 256 */
+pattern_maker random_255; /* random letters out of 256, but none is 0: a pattern that holds it is refused */
 pattern_maker random_4;
 pattern_maker random_2;
 pattern_maker one_letter;     /* a^m */

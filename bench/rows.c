@@ -44,7 +44,12 @@ void make(const struct input *input)
         make_in_turn(input->family, bytes, input->m);
     for (size_t i = 0; i < subjects_of(input); i++) {
         uint16_t scratch[POQEWAN_SCRATCH];
-        subjects[i].pattern = versions[OURS][0]->prepare(bytes[i], input->m, scratch, POQEWAN_SCRATCH).pattern;
+        const poqewan_preparation prepared = versions[OURS][0]->prepare(bytes[i], input->m, scratch, POQEWAN_SCRATCH);
+        if (prepared.refusal != 0) {
+            fprintf(stderr, "bench: a pattern is refused with %u\n", (unsigned)prepared.refusal);
+            exit(1);
+        }
+        subjects[i].pattern = prepared.pattern;
         subjects[i].text = text;
         subjects[i].n = input->kind != NULL ? input->size->n : 0;
     }

@@ -38,6 +38,7 @@ extern "C" {
 #define POQEWAN_SHORT_SCRATCH 3
 #define POQEWAN_FALSE_PATTERN 4
 #define POQEWAN_LONG_TEXT 5
+#define POQEWAN_ZERO_IN_PATTERN 10
 
 /* How a search ended: run to its end; or cut off at a window, where a comparison was due and the cap was spent, or where the
    pattern occurred and the list had no free entry. */
@@ -45,8 +46,8 @@ extern "C" {
 #define POQEWAN_SPENT 1
 #define POQEWAN_FULL 2
 
-/* A pattern prepared for search: m bytes and their tables. The entries past those defined are 0. A search refuses any value
-   that preparation does not give, so a copy from a file or a wire needs no check of its own. */
+/* A pattern prepared for search: m bytes, none of them 0, and their tables. The entries past those defined are 0. A search
+   refuses any value that preparation does not give, so a copy from a file or a wire needs no check of its own. */
 typedef struct poqewan_pattern {
     size_t len;     /* m, from 1 to POQEWAN_LONGEST_PATTERN */
     size_t noholes; /* the number of noholes */
@@ -73,9 +74,12 @@ typedef struct poqewan_report {
 } poqewan_report;
 
 /*
- * Prepares a pattern for search. Refused, in this order: no byte (1), more than POQEWAN_LONGEST_PATTERN bytes (2), a
- * scratch of fewer than POQEWAN_SCRATCH numbers (3). After success the first POQEWAN_SCRATCH numbers of the scratch are 0
- * and the rest unchanged; after a refusal it is unchanged.
+ * Prepares a pattern for search. Refused, in this order: no byte (1), more than POQEWAN_LONGEST_PATTERN bytes (2), a byte 0
+ * among them (10), a scratch of fewer than POQEWAN_SCRATCH numbers (3). After success the first POQEWAN_SCRATCH numbers of
+ * the scratch are 0 and the rest unchanged; after a refusal it is unchanged.
+ *
+ * A byte 0 closes a seat's reflections in a text, which may hold any byte. No pattern holds it, so no occurrence joins two
+ * seats.
  */
 poqewan_preparation poqewan_prepare(const uint8_t *bytes, size_t bytes_len, uint16_t *scratch, size_t scratch_len);
 
@@ -86,9 +90,9 @@ poqewan_preparation poqewan_prepare(const uint8_t *bytes, size_t bytes_len, uint
  * POQEWAN_LONGEST_TEXT bytes (5).
  *
  * The positions are exactly the occurrences, ascending, each once; of a search cut off at window b, exactly those below b.
- * It is spent only with `count` equal to `cap` and a comparison due, and full only with every entry of the list written and
- * an occurrence at the window. With n text bytes and m pattern bytes, 2 * count <= 3 * n - m at the end if n >= m, and
- * count = 0 if n < m; cut off at window b, 2 * count <= 3 * b + 2 * m.
+ * None of them covers a byte 0 of the text. The search is spent only with `count` equal to `cap` and a comparison due, and
+ * full only with every entry of the list written and an occurrence at the window. With n text bytes and m pattern bytes,
+ * 2 * count <= 3 * n - m at the end if n >= m, and count = 0 if n < m; cut off at window b, 2 * count <= 3 * b + 2 * m.
  */
 poqewan_report poqewan_colussi(poqewan_pattern pattern, const uint8_t *text, size_t text_len, uint64_t cap,
                                uint32_t *positions, size_t positions_len);

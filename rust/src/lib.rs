@@ -38,7 +38,8 @@ pub const LONGEST_TEXT: usize = 16_777_216;
 /// The least scratch, in numbers.
 pub const SCRATCH: usize = 771;
 
-/// A pattern prepared for search: m bytes and their tables. The entries past those defined are 0.
+/// A pattern prepared for search: m bytes, none of them 0, and their tables. The entries past those
+/// defined are 0.
 ///
 /// A search refuses any value that preparation does not give, so a copy from a file or a wire needs
 /// no check of its own.
@@ -75,10 +76,12 @@ pub enum Refusal {
     FalsePattern = 4,
     /// The text has more than [`LONGEST_TEXT`] bytes.
     LongText = 5,
+    /// The pattern holds a byte 0.
+    ZeroInPattern = 10,
 }
 
 impl Refusal {
-    /// The refusal's number, from 1 to 5.
+    /// The refusal's number, as the C interface gives it.
     #[must_use]
     pub const fn number(self) -> u32 {
         self as u32
@@ -95,6 +98,7 @@ impl fmt::Display for Refusal {
                 "the pattern is not what preparation gives for its length and bytes"
             }
             Self::LongText => "the text has too many bytes",
+            Self::ZeroInPattern => "the pattern holds a byte 0",
         })
     }
 }
@@ -125,13 +129,16 @@ pub struct Report {
 
 /// Prepares a pattern for search.
 ///
+/// A byte 0 closes a seat's reflections in a text, which may hold any byte. No pattern holds it, so
+/// no occurrence joins two seats.
+///
 /// After success the first [`SCRATCH`] numbers of the scratch are 0 and the rest unchanged; after a
 /// refusal it is unchanged.
 ///
 /// # Errors
 ///
-/// Refused, in this order: no byte (1), more than [`LONGEST_PATTERN`] bytes (2), a scratch of fewer
-/// than [`SCRATCH`] numbers (3).
+/// Refused, in this order: no byte (1), more than [`LONGEST_PATTERN`] bytes (2), a byte 0 among them
+/// (10), a scratch of fewer than [`SCRATCH`] numbers (3).
 pub fn prepare(bytes: &[u8], scratch: &mut [u16]) -> Result<Pattern, Refusal> {
     // SAFETY: each pointer and its number of elements are those of a slice, and what is written is
     // borrowed mutably, so it overlaps nothing else.
@@ -151,10 +158,10 @@ pub fn prepare(bytes: &[u8], scratch: &mut [u16]) -> Result<Pattern, Refusal> {
 /// unchanged.
 ///
 /// The positions are exactly the occurrences, ascending, each once; of a search cut off at window
-/// b, exactly those below b. It is spent only with `count` equal to `cap` and a comparison due, and
-/// full only with every entry of the list written and an occurrence at the window. With n text
-/// bytes and m pattern bytes, 2 * count <= 3 * n - m at the end if n >= m, and count = 0 if n < m;
-/// cut off at window b, 2 * count <= 3 * b + 2 * m.
+/// b, exactly those below b. None of them covers a byte 0 of the text. The search is spent only with
+/// `count` equal to `cap` and a comparison due, and full only with every entry of the list written
+/// and an occurrence at the window. With n text bytes and m pattern bytes, 2 * count <= 3 * n - m at
+/// the end if n >= m, and count = 0 if n < m; cut off at window b, 2 * count <= 3 * b + 2 * m.
 ///
 /// # Errors
 ///
@@ -226,6 +233,7 @@ fn accepted(number: u32) -> Result<(), Refusal> {
         3 => Err(Refusal::ShortScratch),
         4 => Err(Refusal::FalsePattern),
         5 => Err(Refusal::LongText),
+        10 => Err(Refusal::ZeroInPattern),
         other => unreachable!("the library's contract has no refusal {other}"),
     }
 }
@@ -252,7 +260,7 @@ mod tests {
 
     #[test]
     fn the_number_of_a_refusal_is_read_back_as_that_refusal() {
-        for number in 1..=5 {
+        for number in (1..=5).chain([10]) {
             assert_eq!(accepted(number).map_err(Refusal::number), Err(number));
         }
         assert_eq!(accepted(0), Ok(()));

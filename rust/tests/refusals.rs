@@ -3,32 +3,20 @@
 mod common;
 mod oracle;
 
-use common::{assert_refused, prepared, repeated, words, Random, Trial};
+use common::{assert_refused, changed, prepared, repeated, words, Random, Trial};
 use oracle::Tables;
 use poqewan::{Pattern, Refusal, LONGEST_PATTERN, SCRATCH};
 
-/// Preparation's refusal, if any: the first row of document 01's table that applies.
-fn expected_refusal(pattern_len: usize, scratch_len: usize) -> Option<Refusal> {
-    if pattern_len == 0 {
-        Some(Refusal::NoPattern)
-    } else if pattern_len > 256 {
-        Some(Refusal::LongPattern)
-    } else if scratch_len < 771 {
-        Some(Refusal::ShortScratch)
-    } else {
-        None
-    }
-}
-
-/// Prepares a pattern, and checks the answer and the scratch.
-fn check_preparation(bytes: &[u8], scratch_len: usize) {
+/// Prepares a pattern, and checks the answer and the scratch. Gives the refusal, if any.
+fn check_preparation(bytes: &[u8], scratch_len: usize) -> Option<Refusal> {
     // All numbers differ and none is 0.
     let lent: Vec<u16> = (1..=scratch_len).map(|i| i as u16).collect();
     let mut scratch = lent.clone();
     let answer = poqewan::prepare(bytes, &mut scratch);
 
     let case = format!("{} bytes, scratch of {scratch_len}", bytes.len());
-    if let Some(why) = expected_refusal(bytes.len(), scratch_len) {
+    let refusal = oracle::preparation_refusal(bytes, scratch_len);
+    if let Some(why) = refusal {
         assert_eq!(answer, Err(why), "{case}");
         assert_eq!(scratch, lent, "{case}");
     } else {
@@ -36,6 +24,7 @@ fn check_preparation(bytes: &[u8], scratch_len: usize) {
         assert_eq!(scratch[..SCRATCH], [0; SCRATCH], "{case}");
         assert_eq!(scratch[SCRATCH..], lent[SCRATCH..], "{case}");
     }
+    refusal
 }
 
 #[test]
@@ -45,7 +34,77 @@ fn preparation_refuses_in_order_and_leaves_the_scratch_as_promised() {
         for scratch_len in [0, 1, 769, 770, 771, 772, 1_000, 5_000] {
             check_preparation(&random.word(b"ab", pattern_len), scratch_len);
             check_preparation(&repeated(b"a", pattern_len), scratch_len);
+            check_preparation(&repeated(b"ab\0", pattern_len), scratch_len);
         }
+    }
+}
+
+#[test]
+fn a_byte_0_is_refused_at_every_place() {
+    let mut random = Random::new(37);
+    for len in [1, 2, 3, 4, 15, 16, 17, 31, 32, 33, 63, 64, 65, 255, 256] {
+        let word = random.word(b"ab\x01\xFF", len);
+        assert_eq!(check_preparation(&word, 771), None);
+        for place in 0..len {
+            let word = changed(&word, place, 0);
+            let refusal = check_preparation(&word, 771);
+            assert_eq!(refusal, Some(Refusal::ZeroInPattern), "{len}, {place}");
+        }
+    }
+    let zeros = [0; 256];
+    assert_eq!(check_preparation(&zeros, 771), Some(Refusal::ZeroInPattern));
+}
+
+#[test]
+fn a_byte_0_is_refused_after_a_long_pattern_and_before_a_short_scratch() {
+    for place in [0, 128, 255, 256] {
+        let word = changed(&[b'a'; 257], place, 0);
+        assert_eq!(check_preparation(&word, 771), Some(Refusal::LongPattern));
+        assert_eq!(check_preparation(&word, 770), Some(Refusal::LongPattern));
+    }
+    for place in [0, 128, 255] {
+        let word = changed(&[b'a'; 256], place, 0);
+        for scratch_len in [0, 770] {
+            let refusal = check_preparation(&word, scratch_len);
+            assert_eq!(refusal, Some(Refusal::ZeroInPattern));
+        }
+    }
+}
+
+/// The tables are those that the definitions give, and the value is false by its bytes alone.
+#[test]
+fn a_value_over_bytes_that_hold_0_is_false() {
+    for word in [
+        &b"\0"[..],
+        b"\0\0\0",
+        b"\0ba",
+        b"a\0a",
+        b"ab\0",
+        b"aa\0aa",
+        &changed(&[b'a'; 256], 255, 0),
+        &changed(&repeated(b"ab", 256), 0, 0),
+    ] {
+        let value = Tables::of(word).pattern();
+        assert_refused(&value, b"", Refusal::FalsePattern);
+        assert_refused(&value, word, Refusal::FalsePattern);
+    }
+
+    // aba's tables are those of any word of that shape.
+    let mut value = prepared(b"aba");
+    value.bytes[1] = b'c';
+    check_value(&value);
+    assert!(oracle::tables_if_true(&value).is_some());
+    value.bytes[1] = 0;
+    assert_refused(&value, b"a\0a", Refusal::FalsePattern);
+}
+
+#[test]
+fn a_byte_0_past_the_length_is_no_matter() {
+    for len in [1, 2, 64, 255] {
+        let pattern = prepared(&repeated(b"ab", len));
+        assert_eq!(pattern.bytes[len], 0);
+        check_value(&pattern);
+        assert!(oracle::tables_if_true(&pattern).is_some());
     }
 }
 
@@ -135,12 +194,12 @@ fn other_numbers(number: u64, max: u64) -> impl Iterator<Item = u64> {
 fn each_change_of_short_patterns() {
     for bytes in [
         &b"a"[..],
-        b"\0",
+        b"\x01",
         b"aa",
         b"ab",
         b"aba",
-        b"ab\0",
-        b"\0\0\0",
+        b"ab\x01",
+        b"\x01\x01\x01",
         b"aabaa",
         b"aabaabaa",
         b"abaababa",

@@ -265,7 +265,7 @@ static void test_charge(void)
     CHECK(poqewan_charge(UINT64_MAX) == UINT64_C(18446744073709552));
 }
 
-/* Refusals 1 to 3, each at its edges, in their order. */
+/* Refusals 1, 2 and 3, each at its edges, in their order. */
 static void test_preparation(void)
 {
     static const size_t lengths[] = {0, 1, 2, 255, 256, 257, 1000};
@@ -283,6 +283,45 @@ static void test_preparation(void)
         }
 }
 
+/* Refusal 10: a byte 0 at the first, a middle and the last place, with a scratch that is long enough and with one that is
+   short. A pattern that is too long as well is refused for that. */
+static void test_zero_in_pattern(void)
+{
+    static const size_t lengths[] = {1, 2, 3, 16, 33, 255, 256, 257};
+    static const size_t scratches[] = {0, 770, 771, 1000};
+    uint8_t bytes[257];
+    for (size_t i = 0; i < sizeof lengths / sizeof *lengths; i++)
+        for (size_t j = 0; j < sizeof scratches / sizeof *scratches; j++) {
+            size_t m = lengths[i], places[] = {0, m / 2, m - 1};
+            for (size_t k = 0; k < 3; k++) {
+                random_letters(bytes, m, 2);
+                bytes[places[k]] = 0;
+                prepare(bytes, m, scratches[j], m > 256 ? POQEWAN_LONG_PATTERN : POQEWAN_ZERO_IN_PATTERN);
+            }
+        }
+}
+
+/* The tables of aba are those of any word of its shape: with another letter for b it is true, and with a byte 0 false. Past
+   its length a byte 0 stands in every pattern. */
+static void test_zero_in_a_value(void)
+{
+    uint8_t *text = lend_bytes("a\0ac\0aca", 8);
+    uint32_t *list = lend_list(8);
+    poqewan_pattern pattern = prepared("aba");
+    CHECK(pattern.bytes[3] == 0);
+    for (int s = 0; s < SEARCHES; s++) {
+        pattern.bytes[1] = 'c';
+        CHECK(searches[s](pattern, text, 8, UINT64_MAX, list, 8).refusal == 0);
+        CHECK(list[0] == 5);
+        list[0] = UNWRITTEN;
+        CHECK(unwritten(list, 0, 8));
+    }
+    pattern.bytes[1] = 0;
+    check_refused(&pattern, text, 8, POQEWAN_FALSE_PATTERN);
+    free(list);
+    free(text);
+}
+
 /* With a number of 0 the pointer is not followed. */
 static void test_null(void)
 {
@@ -292,6 +331,7 @@ static void test_null(void)
 
     CHECK(poqewan_prepare(NULL, 0, NULL, 0).refusal == POQEWAN_NO_PATTERN);
     CHECK(poqewan_prepare(a, 1, NULL, 0).refusal == POQEWAN_SHORT_SCRATCH);
+    CHECK(poqewan_prepare((const uint8_t *)"", 1, NULL, 0).refusal == POQEWAN_ZERO_IN_PATTERN);
     for (int s = 0; s < SEARCHES; s++) {
         CHECK(is_report(searches[s](pattern, NULL, 0, 0, NULL, 0), POQEWAN_DONE, 0, 0, 0));
         CHECK(is_report(searches[s](pattern, NULL, 0, 0, list, 1), POQEWAN_DONE, 0, 0, 0));
@@ -442,6 +482,23 @@ static void test_limits(void)
         }
 }
 
+/* A text may hold any byte, and byte 0 breaks every occurrence that would cover it. */
+static void test_zero_in_text(void)
+{
+    static const uint32_t positions[] = {0, 4, 6};
+    uint8_t *text = lend_bytes("aba\0ababa\0a\0a", 13);
+    uint32_t *list = lend_list(4);
+    poqewan_pattern pattern = prepared("aba");
+    for (int s = 0; s < SEARCHES; s++) {
+        check_limits(s, &pattern, text, 13);
+        poqewan_report r = searches[s](pattern, text, 13, UINT64_MAX, list, 4);
+        CHECK(r.refusal == 0 && r.ending == POQEWAN_DONE && r.written == 3);
+        CHECK(memcmp(list, positions, sizeof positions) == 0);
+    }
+    free(list);
+    free(text);
+}
+
 /* Small searches with limits drawn by lot; now and then the longest pattern. */
 static void test_random_searches(size_t rounds)
 {
@@ -516,11 +573,14 @@ int main(int argc, char **argv)
     test_worked_tables();
     test_charge();
     test_preparation();
+    test_zero_in_pattern();
+    test_zero_in_a_value();
     test_null();
     test_changed_patterns();
     test_false_lengths();
     test_junk(quick ? 100 : 1000);
     test_limits();
+    test_zero_in_text();
     test_random_searches(quick ? 200 : 2000);
     test_longest_text();
     if (!quick)

@@ -1,23 +1,25 @@
 -- The pattern that preparation gives is prepared: prepared again from its own bytes, it is the same. Assumes nothing.
-use Prim.Native.Nat.{ℕ, _-_, _≤_}
+use Prim.Native.Nat.{ℕ, _-_}
 use mathlib.Core.Path.{_≡_}
 use mathlib.Core.Bool.{true}
 use mathlib.Core.List.{List}
 use native.Mathlib.Omega.{arith}
 use lib.ListN.{length, replicate}
 use lib.Seq.{take-append-seam}
-use Rattle.pattern.specs.Sizes.{longestPattern, scratchSize}
+use Rattle.intake.specs.Sizes.{longestPattern, scratchSize}
+use Rattle.intake.specs.Outcomes.{Preparable}
+use Rattle.intake.proofs.Outcomes.{ready-of}
 use Rattle.pattern.specs.Lists.{padded}
 use Rattle.pattern.specs.Prepared.{patternOf}
 use Rattle.checked.specs.Check.{isPrepared, IsPrepared, preparedAgain}
 use Rattle.pattern.specs.Letters.{ownBytes}
-use Rattle.pattern.proofs.Answers.{ready, ready-answer}
+use Rattle.pattern.proofs.Answers.{ready-answer}
 use Rattle.checked.proofs.Checked.{is-prepared}
 
 pub own-bytes : (w : List ℕ) → ownBytes (patternOf w) ≡ w
 unfolding patternOf padded
 own-bytes w = take-append-seam w (replicate (longestPattern - length w) 0)
 
-pub prepared-again : (w : List ℕ) → 1 ≤ length w → length w ≤ longestPattern → isPrepared (patternOf w) ≡ true
+pub prepared-again : (w : List ℕ) → Preparable w → isPrepared (patternOf w) ≡ true
 unfolding IsPrepared preparedAgain
-prepared-again w some short = is-prepared (patternOf w) .1 (rw (own-bytes w) (ready-answer w scratchSize (ready w scratchSize some short (omega arith))))
+prepared-again w P = is-prepared (patternOf w) .1 (rw (own-bytes w) (ready-answer w scratchSize (ready-of w scratchSize P (omega arith))))

@@ -3,13 +3,13 @@ use mathlib.Core.Path.{_≡_, refl, sym, ap, _∙_}
 use mathlib.Core.Logic.{_↔_}
 use mathlib.Core.Bool.{Bool, true, false}
 use Rattle.words.proofs.Cases.{not-both}
-use Rattle.pattern.specs.Sizes.{scratchSize}
+use Rattle.intake.specs.Sizes.{scratchSize}
+use Rattle.intake.specs.declared.Outcome.{Outcome}
+use Rattle.intake.specs.declared.Outcome.the-variants.{Ready, Refused}
 use Rattle.pattern.specs.Prepared.{prepared}
 use Rattle.checked.specs.Check.{samePattern, preparedAgain, isPrepared, IsPrepared}
 use Rattle.pattern.specs.Letters.{ownBytes}
 use Rattle.pattern.specs.declared.Pattern.{Pattern}
-use Rattle.pattern.specs.declared.Outcome.{Outcome}
-use Rattle.pattern.specs.declared.Outcome.the-variants.{Ready, Refused}
 use Rattle.pattern.specs.declared.Prepared.{Prepared}
 use Rattle.checked.proofs.Same.{same-pattern}
 

@@ -6,22 +6,27 @@ use native.Mathlib.Omega.{arith}
 use lib.ListN.{length, getD}
 use Rattle.words.specs.Tables.{noholes, order, place, shift, next}
 use Rattle.words.proofs.Ranks.{length-order}
-use Rattle.pattern.specs.Sizes.{longestPattern, ranks, scratchSize}
+use Rattle.words.specs.Holds.{Lacks}
+use Rattle.intake.specs.Sizes.{longestPattern, scratchSize}
+use Rattle.intake.specs.Outcomes.{outcomeOf}
+use Rattle.intake.specs.declared.Outcome.{Outcome}
+use Rattle.intake.specs.declared.Outcome.the-variants.{Ready, Refused}
+use Rattle.intake.proofs.Outcomes.{ready-is}
+use Rattle.pattern.specs.Sizes.{ranks}
 use Rattle.pattern.specs.Lists.{tabulate, padded}
-use Rattle.pattern.specs.Prepared.{patternOf, unprepared, outcomeOf}
+use Rattle.pattern.specs.Prepared.{patternOf, unprepared}
 use Rattle.checked.specs.Check.{preparedAgain, IsPrepared}
 use Rattle.pattern.specs.Letters.{ownBytes, wordOf}
 use Rattle.pattern.specs.declared.Pattern.{Pattern}
-use Rattle.pattern.specs.declared.Outcome.{Outcome}
-use Rattle.pattern.specs.declared.Outcome.the-variants.{Ready, Refused}
 use Rattle.pattern.specs.declared.Prepared.{Prepared}
 use Rattle.pattern.proofs.Lists.{length-tabulate, length-padded, padded-at, padded-tabulate-at}
-use Rattle.pattern.proofs.Answers.{refused-answer, ready-answer, ready-sizes}
+use Rattle.pattern.proofs.Answers.{refused-answer, ready-answer}
 
 pub record Fields (p : Pattern) : Type 0 where
   pub some : 1 ≤ p .len
   pub short : p .len ≤ longestPattern
   pub word : length (wordOf p) ≡ p .len
+  pub no-zero : Lacks 0 (ownBytes p)
   pub noholes : p .noholes ≡ noholes (wordOf p)
   pub length-bytes : length (p .bytes) ≡ longestPattern
   pub length-order : length (p .order) ≡ longestPattern
@@ -55,17 +60,18 @@ unfolding wordOf patternOf place
 fields-of p G =
     let w = ownBytes p in
     let is = prepared-is p G .1 in
-    let sizes = ready-sizes w scratchSize (prepared-is p G .0) in
+    let taken = ready-is w scratchSize (prepared-is p G .0) .0 in
     let len : p .len ≡ length w = ap (λ (q : Pattern). q .len) is in
     let orders : p .order ≡ padded longestPattern (order w) = ap (λ (q : Pattern). q .order) is in
-    let shifts = by-rank w (shift w) (sizes .1) (ap (λ (q : Pattern). q .shift) is) in
-    let nexts = by-rank w (next w) (sizes .1) (ap (λ (q : Pattern). q .next) is) in
+    let shifts = by-rank w (shift w) (taken .short) (ap (λ (q : Pattern). q .shift) is) in
+    let nexts = by-rank w (next w) (taken .short) (ap (λ (q : Pattern). q .next) is) in
     record {
       some = omega arith;
       short = omega arith;
       word = sym len;
+      no-zero = taken .no-zero;
       noholes = ap (λ (q : Pattern). q .noholes) is;
-      length-bytes = ap (λ (q : Pattern). length (q .bytes)) is ∙ length-padded longestPattern w (sizes .1);
+      length-bytes = ap (λ (q : Pattern). length (q .bytes)) is ∙ length-padded longestPattern w (taken .short);
       length-order = ap length orders ∙ length-padded longestPattern (order w) (omega (arith, length-order w));
       length-shift = shifts .0;
       length-next = nexts .0;

@@ -4,12 +4,12 @@ use mathlib.Core.Path.{_≡_}
 use mathlib.Core.Bool.{Bool, true, false, _&&_}
 use mathlib.Core.List.{List, [], _∷_}
 use lib.Dec.{eqb}
-use Rattle.pattern.specs.Sizes.{scratchSize}
+use Rattle.intake.specs.Sizes.{scratchSize}
+use Rattle.intake.specs.declared.Outcome.{Outcome}
+use Rattle.intake.specs.declared.Outcome.the-variants.{Ready, Refused}
 use Rattle.pattern.specs.Prepared.{prepared}
 use Rattle.pattern.specs.Letters.{ownBytes}
 use Rattle.pattern.specs.declared.Pattern.{Pattern}
-use Rattle.pattern.specs.declared.Outcome.{Outcome}
-use Rattle.pattern.specs.declared.Outcome.the-variants.{Ready, Refused}
 use Rattle.pattern.specs.declared.Prepared.{Prepared}
 
 unfoldable pub sameList : List ℕ → List ℕ → Bool

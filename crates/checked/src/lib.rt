@@ -10,7 +10,7 @@ ghost use mathlib.Core.Bool.{true};
 ghost use mathlib.Core.Logic.{_↔_};
 ghost use Prim.Native.Nat.{min};
 ghost use lib.ListN.{take};
-ghost use Rattle.pattern.specs.Sizes.{scratchSize};
+ghost use Rattle.intake.specs.Sizes.{scratchSize};
 ghost use Rattle.pattern.specs.Prepared.{prepared};
 ghost use Rattle.checked.specs.Check.{isPrepared, IsPrepared};
 

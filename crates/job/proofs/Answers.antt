@@ -1,72 +1,62 @@
--- What is printed for an input, by its tests, and what the program's work then answers and leaves in the buffer. Assumes nothing.
-use Prim.Native.Nat.{ℕ, suc, _+_, _-_, _≤_, _<_}
+-- What is printed for an input, and what the program's work then answers and leaves in the buffer. Assumes nothing.
+use Prim.Native.Nat.{ℕ, _+_, _-_, _≤_, _<_}
 use mathlib.Core.Path.{_≡_, refl, sym, ap, _∙_}
-use mathlib.Core.Bool.{false}
 use mathlib.Core.List.{List, _++_}
 use native.Mathlib.Nat.{zero-add}
 use native.Mathlib.Numerals.{one-add}
 use native.Mathlib.Omega.{arith}
-use lib.Dec.{eqb, ltb}
-use lib.ListN.{length, getD, take, drop, length-drop, List·getD-eq-default}
+use lib.ListN.{length, take, drop, length-drop}
 use lib.Seq.{take-all}
-use borrow.Author.Tests.{eq-eqb, ne-eqb, lt-ltb, le-ltb}
-use Rattle.refusal.specs.declared.Refusal.the-variants.{NoPattern, LongText, ShortInput}
+use borrow.Author.Tests.{lt-ltb, le-ltb}
+use Rattle.refusal.specs.declared.Refusal.{Refusal}
+use Rattle.intake.specs.Outcomes.{Preparable}
+use Rattle.input.specs.Parsed.{longestText, lengthIn, patternIn, textIn, parsed, IfParts, Accepted}
+use Rattle.input.specs.declared.Parsed.{Parsed}
+use Rattle.input.specs.declared.Parsed.the-variants.{Parts, Refused}
 use Rattle.rules.specs.Colussi.{colussi}
-use Rattle.job.specs.Limits.{bufferSize, listSize, longestText, noCap}
+use Rattle.job.specs.Limits.{bufferSize, listSize, noCap}
 use Rattle.job.specs.Printed.{refused-line, search-lines, printed}
 use Rattle.job.specs.Answer.{answerOf, bufferAfter}
 use Rattle.job.specs.Internal.Writing.{Puts}
 use Rattle.job.specs.declared.JobAnswer.the-variants.{Wrote, ShortBuffer}
 
--- ---- The tests in their order
+-- ---- What is printed
 
--- The pattern and the text as the code cuts them out of an input whose length byte is len.
-abbrev patternIn : List ℕ → ℕ → List ℕ
-patternIn input len = take (1 + len - 1) (drop 1 input)
+-- The parts of an input as the code cuts them out, where its length byte is len.
+abbrev patternCut : List ℕ → ℕ → List ℕ
+patternCut input len = take (1 + len - 1) (drop 1 input)
 
-abbrev textIn : List ℕ → ℕ → List ℕ
-textIn input len = take (length input - (1 + len)) (drop (1 + len) input)
+abbrev textCut : List ℕ → ℕ → List ℕ
+textCut input len = take (length input - (1 + len)) (drop (1 + len) input)
 
-module _ (input : List ℕ) (len : ℕ) (first : len ≡ getD input 0 0) where
-  pub no-pattern : len ≡ 0 → printed input ≡ refused-line NoPattern
+-- `parse` answered r to an input.
+module _ (input : List ℕ) {r : Parsed} (answered : (r ≡ parsed input) × IfParts (Accepted input) r) where
+  pub refuses : {why : Refusal} → r ≡ Refused why → printed input ≡ refused-line why
   unfolding printed
-  no-pattern z = rw (eq-eqb (getD input 0 0) 0 (sym first ∙ z), printed) refl
+  refuses e = rw (sym (answered .0) ∙ e, printed) refl
 
-  module _ (some : len ≡ 0 → ⊥) where
-    some-passes : eqb (getD input 0 0) 0 ≡ false
-    some-passes = ne-eqb (getD input 0 0) 0 (λ z. some (first ∙ z))
+  module _ (len : ℕ) (e : r ≡ Parts len) where
+    pub accepted : Accepted input len
+    accepted = rw e at (answered .1)
 
-    pub short-input : length input < 1 + len → printed input ≡ refused-line ShortInput
+    pattern-is : patternCut input len ≡ patternIn input
+    pattern-is = let n : 1 + len - 1 ≡ lengthIn input = omega (arith, accepted .first) in rw n refl
+
+    text-is : textCut input len ≡ textIn input
+    text-is =
+        take-all (length input - (1 + len)) (drop (1 + len) input) (omega (arith, length-drop (1 + len) input))
+        ∙ rw (one-add, accepted .first) refl
+
+    -- What `searched` requires of the parts.
+    pub may-search : Preparable (patternCut input len) × (length (textCut input len) ≤ longestText)
+    may-search = (rw pattern-is (accepted .preparable), rw text-is (accepted .fits))
+
+    searches-parts : printed input ≡ search-lines (colussi (patternIn input) (textIn input) noCap listSize)
     unfolding printed
-    short-input l = rw (some-passes, lt-ltb (length input) (suc (getD input 0 0)) (omega (arith, first)), printed) refl
+    searches-parts = rw (sym (answered .0) ∙ e, printed) refl
 
-    module _ (whole : 1 + len ≤ length input) where
-      whole-passes : ltb (length input) (suc (getD input 0 0)) ≡ false
-      whole-passes = le-ltb (length input) (suc (getD input 0 0)) (omega (arith, first))
-
-      pattern-is : patternIn input len ≡ take (getD input 0 0) (drop 1 input)
-      pattern-is = let e : 1 + len - 1 ≡ getD input 0 0 = omega (arith, first) in rw e refl
-
-      text-is : textIn input len ≡ drop (suc (getD input 0 0)) input
-      text-is =
-          take-all (length input - (1 + len)) (drop (1 + len) input) (omega (arith, length-drop (1 + len) input)) ∙ rw (one-add, first) refl
-
-      pub long-text : longestText < length (textIn input len) → printed input ≡ refused-line LongText
-      unfolding printed
-      long-text l = rw (some-passes, whole-passes, lt-ltb longestText (length (drop (suc (getD input 0 0)) input)) (rw text-is at l), printed) refl
-
-      module _ (short : length (textIn input len) ≤ longestText) where
-        all-pass : printed input
-            ≡ search-lines (colussi (take (getD input 0 0) (drop 1 input)) (drop (suc (getD input 0 0)) input) noCap listSize)
-        unfolding printed
-        all-pass =
-            rw (some-passes, whole-passes, le-ltb longestText (length (drop (suc (getD input 0 0)) input)) (rw text-is at short), printed) refl
-
-        pub searches : printed input ≡ search-lines (colussi (patternIn input len) (textIn input len) noCap listSize)
-        searches = rw (pattern-is, text-is) all-pass
-
-pub no-input : (input : List ℕ) → length input ≡ 0 → printed input ≡ refused-line NoPattern
-no-input input e = no-pattern input 0 (sym (List·getD-eq-default input 0 (omega arith))) refl
+    pub searches : printed input ≡ search-lines (colussi (patternCut input len) (textCut input len) noCap listSize)
+    searches = rw (pattern-is, text-is) searches-parts
 
 -- ---- The answer and the buffer
 

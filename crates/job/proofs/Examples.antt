@@ -26,3 +26,17 @@ short-input = refl
 pub no-text : printed (1 ∷ 97 ∷ []) ≡ ascii "end done\ncount 0\ncharge 0\nplaces 0\n"
 unfolding printed
 no-text = refl
+
+-- A byte 0 in the pattern; and one where a byte is missing too.
+pub zero-in-pattern : printed (2 ∷ 97 ∷ 0 ∷ 97 ∷ []) ≡ ascii "refused 10\n"
+unfolding printed
+zero-in-pattern = refl
+
+pub short-with-zero : printed (2 ∷ 0 ∷ []) ≡ ascii "refused 6\n"
+unfolding printed
+short-with-zero = refl
+
+-- A byte 0 in the text.
+pub zero-in-text : printed (1 ∷ 97 ∷ 97 ∷ 0 ∷ 97 ∷ []) ≡ ascii "end done\ncount 3\ncharge 1\nplaces 2\n0\n2\n"
+unfolding printed
+zero-in-text = refl

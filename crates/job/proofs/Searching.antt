@@ -8,13 +8,14 @@ use lib.Seq.{take-append-seam}
 use Rattle.admission.specs.Admitted.{longestText, admitted}
 use Rattle.admission.specs.declared.Admission.the-variants.{Admitted}
 use Rattle.admission.proofs.Admitting.{admitted-of}
-use Rattle.pattern.specs.Sizes.{longestPattern, scratchSize}
-use Rattle.pattern.specs.Letters.{ownBytes}
-use Rattle.pattern.specs.Letters.{wordOf}
+use Rattle.intake.specs.Sizes.{scratchSize}
+use Rattle.intake.specs.Outcomes.{Preparable}
+use Rattle.intake.proofs.Outcomes.{ready-of}
+use Rattle.pattern.specs.Letters.{ownBytes, wordOf}
 use Rattle.pattern.specs.Prepared.{patternOf, prepared}
 use Rattle.pattern.specs.declared.Prepared.{Prepared}
 use Rattle.refusal.specs.declared.Refusal.{Refusal}
-use Rattle.pattern.proofs.Answers.{ready, ready-answer}
+use Rattle.pattern.proofs.Answers.{ready-answer}
 use Rattle.checked.proofs.Again.{own-bytes, prepared-again}
 use Rattle.checked.proofs.Checked.{is-prepared}
 use Rattle.pattern.proofs.Letters.{word-own, text-own}
@@ -63,10 +64,10 @@ lines-of-found {s = s} F = rw (F .positions, F .report) (sym (lines-of-search s)
 
 -- ---- The search for bytes that were just prepared
 
-module _ (w t : List ℕ) (some : 1 ≤ length w) (short : length w ≤ longestPattern) (fits : length t ≤ longestText)
+module _ (w t : List ℕ) (preparable : Preparable w) (fits : length t ≤ longestText)
     {q : Prepared} (ready-made : q ≡ prepared w scratchSize) (cap : ℕ) (lent : List ℕ) where
   pattern-is : q .pattern ≡ patternOf w
-  pattern-is = ap (λ (a : Prepared). a .pattern) (ready-made ∙ ready-answer w scratchSize (ready w scratchSize some short (omega arith)))
+  pattern-is = ap (λ (a : Prepared). a .pattern) (ready-made ∙ ready-answer w scratchSize (ready-of w scratchSize preparable (omega arith)))
 
   -- Its letters are the bytes.
   letters : wordOf (q .pattern) ≡ w
@@ -74,7 +75,7 @@ module _ (w t : List ℕ) (some : 1 ≤ length w) (short : length w ≤ longestP
 
   let-in : admitted (q .pattern) (length t) ≡ Admitted
   let-in = admitted-of (q .pattern) (length t)
-      record { prepared = is-prepared (q .pattern) .0 (rw pattern-is (prepared-again w some short)); fits = fits }
+      record { prepared = is-prepared (q .pattern) .0 (rw pattern-is (prepared-again w preparable)); fits = fits }
 
   -- What it answers, and what it leaves in the list.
   pub prepared-runs : {a : SearchAnswer} {after : List ℕ}

@@ -1,9 +1,5 @@
--- The program's limits, each in one place. Those of the text, the cap and the list are document 01's.
+-- The program's limits, each in one place; that of the text is `input`'s. Those of the cap and the list are document 01's.
 use Prim.Native.Nat.{ℕ}
-
--- The longest text, in bytes.
-abbrev pub longestText : ℕ
-longestText = 60000
 
 -- The cap of its search, 2^64 - 1, and the entries of its list.
 abbrev pub noCap : ℕ

@@ -1,19 +1,18 @@
 -- What the program prints for an input, as document 01 gives it ("The program").
-use Prim.Native.Nat.{ℕ, suc, _+_}
+use Prim.Native.Nat.{ℕ}
 use Prim.Native.String.{String}
-use mathlib.Core.Bool.{true, false}
 use mathlib.Core.List.{List, [], _∷_, _++_}
-use lib.Dec.{eqb, ltb}
-use lib.ListN.{length, getD, take, drop}
+use lib.ListN.{length}
 use Rattle.refusal.specs.Numbers.{numberOf}
 use Rattle.refusal.specs.declared.Refusal.{Refusal}
-use Rattle.refusal.specs.declared.Refusal.the-variants.{NoPattern, LongText, ShortInput}
 use Rattle.rules.specs.Rules.{End}
 use Rattle.rules.specs.Colussi.{colussi}
 use Rattle.rules.specs.declared.Ending.{Ending}
 use Rattle.rules.specs.declared.Ending.the-variants.{Done, Spent, Full}
 use Rattle.charge.specs.Charged.{charged}
-use Rattle.job.specs.Limits.{longestText, noCap, listSize}
+use Rattle.input.specs.Parsed.{patternIn, textIn, parsed}
+use Rattle.input.specs.declared.Parsed.the-variants.{Parts, Refused}
+use Rattle.job.specs.Limits.{noCap, listSize}
 use Rattle.job.specs.Text.{ascii, decimal}
 
 -- A word, a number in decimal and a newline.
@@ -47,19 +46,10 @@ unfoldable pub search-lines : End → List ℕ
 unfolding report-lines
 search-lines s = report-lines (s .ending) (length (s .last .made)) (s .last .found)
 
--- The input is one length byte L, L pattern bytes, and the text to the end; empty input has L = 0. Tests 1, 6 and 5, in that order; then the
--- search in Colussi's order, with the cap noCap and a list of listSize entries.
+-- What is printed for an input: its refusal, or the lines of the search in Colussi's order, with the cap noCap and a list of listSize entries.
 unfoldable pub printed : List ℕ → List ℕ
-unfolding refused-line search-lines colussi
-printed input =
-    let L : ℕ = getD input 0 0 in
-    elim (eqb L 0) [
-      | true ↦ refused-line NoPattern
-      | false ↦ elim (ltb (length input) (suc L)) [
-        | true ↦ refused-line ShortInput
-        | false ↦ elim (ltb longestText (length (drop (suc L) input))) [
-          | true ↦ refused-line LongText
-          | false ↦ search-lines (colussi (take L (drop 1 input)) (drop (suc L) input) noCap listSize)
-        ]
-      ]
-    ]
+unfolding parsed refused-line search-lines colussi
+printed input = elim (parsed input) [
+  | Parts len ↦ search-lines (colussi (patternIn input) (textIn input) noCap listSize)
+  | Refused why ↦ refused-line why
+]

@@ -2,21 +2,21 @@
 mod lines;
 mod text;
 
+pub use input::LONGEST_TEXT;
+use input::Parsed;
 use pattern::SCRATCH;
-use refusal::Refusal;
 use search::SearchAnswer;
 ghost use mathlib.Core.Path.{_≡_};
 ghost use Prim.Native.Nat.{_≤_};
 ghost use lib.ListN.{length};
-ghost use Rattle.pattern.specs.Sizes.{longestPattern};
+ghost use Rattle.intake.specs.Outcomes.{Preparable};
+ghost use Rattle.input.specs.Parsed.{longestText};
 ghost use Rattle.rules.specs.Colussi.{colussi};
-ghost use Rattle.job.specs.Limits.{longestText, noCap, listSize, bufferSize};
+ghost use Rattle.job.specs.Limits.{noCap, listSize, bufferSize};
 ghost use Rattle.job.specs.Printed.{search-lines};
 ghost use Rattle.job.specs.Answer.{answerOf, bufferAfter};
 ghost use Rattle.job.specs.Internal.Writing.{Puts};
 
-// The longest text, in bytes.
-pub const LONGEST_TEXT: usize = 60000;
 // The cap of the search, 2^64 - 1, and the entries of its list.
 const NO_CAP: u64 = 18446744073709551615;
 
@@ -32,7 +32,7 @@ pub enum JobAnswer {
 
 // A pattern that preparation takes, in a text of at most LONGEST_TEXT bytes: searched, and its report written.
 fn searched(bytes: &[u8], text: &[u8], out: &mut [u8]) -> usize
-    requires { ⌜ (1 ≤ length (now bytes)) × (length (now bytes) ≤ longestPattern) × (length (now text) ≤ longestText) × (bufferSize ≤ length (now out)) ⌝ }
+    requires { ⌜ Preparable (now bytes) × (length (now text) ≤ longestText) × (bufferSize ≤ length (now out)) ⌝ }
     ensures { λ r. ⌜ Puts (now (out .entry)) (now (out .exit)) 0 (search-lines (colussi (now (bytes .entry)) (now (text .entry)) noCap listSize)) r ⌝ }
 {
     let mut scratch = [0u16; SCRATCH];
@@ -54,20 +54,12 @@ pub fn job(input: &[u8], out: &mut [u8]) -> JobAnswer
     if out.len() < BUFFER {
         return JobAnswer::ShortBuffer;
     }
-    if input.len() == 0 {
-        return JobAnswer::Wrote(lines::put_refused(out, Refusal::NoPattern));
+    let parsed = input::parse(input);
+    match parsed {
+        Parsed::Parts(len) => {
+            let end = 1 + len;
+            JobAnswer::Wrote(searched(&input[1..end], &input[end..], out))
+        }
+        Parsed::Refused(why) => JobAnswer::Wrote(lines::put_refused(out, why)),
     }
-    let len = text::wide(input[0]);
-    if len == 0 {
-        return JobAnswer::Wrote(lines::put_refused(out, Refusal::NoPattern));
-    }
-    let end = 1 + len;
-    if input.len() < end {
-        return JobAnswer::Wrote(lines::put_refused(out, Refusal::ShortInput));
-    }
-    let rest = &input[end..];
-    if LONGEST_TEXT < rest.len() {
-        return JobAnswer::Wrote(lines::put_refused(out, Refusal::LongText));
-    }
-    JobAnswer::Wrote(searched(&input[1..end], rest, out))
 }

@@ -1,15 +1,8 @@
 // Bytes and decimal numbers, put into a buffer.
-ghost use mathlib.Core.Path.{_≡_};
-ghost use Prim.Native.Nat.{_+_, _≤_, _<_};
+ghost use Prim.Native.Nat.{_+_, _≤_};
 ghost use lib.ListN.{length};
 ghost use Rattle.job.specs.Text.{decimal};
 ghost use Rattle.job.specs.Internal.Writing.{Puts, Spells};
-
-pub fn wide(x: u8) -> usize
-    ensures { λ r. ⌜ (r ≡ x) × (r < 256) ⌝ }
-{
-    x as usize
-}
 
 // Puts bytes from `at` on; answers the place after them.
 pub fn put(out: &mut [u8], at: usize, bytes: &[u8]) -> usize

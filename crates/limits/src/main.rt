@@ -1,5 +1,5 @@
 // The program's work at its limits: each input is answered, and the answer's first four lines are printed. What they must be is read off
-// document 01.
+// documents 01 and 02.
 use job::BUFFER;
 use job::JobAnswer;
 use job::LIST;
@@ -54,13 +54,24 @@ fn show_patterns() {
     show(b"-- a length of 0\n", b"\0abc");
 }
 
-// The pattern a, and a text of b.
+// The pattern abc, with a byte 0 in place of one of them, and then with a byte missing besides; and a byte 0 in the text.
+fn show_zeros() {
+    show(b"-- byte 0 at the first place\n", b"\x03\0bcabc");
+    show(b"-- in the middle\n", b"\x03a\0cabc");
+    show(b"-- at the last place\n", b"\x03ab\0abc");
+    show(b"-- and a byte missing\n", b"\x03a\0");
+    show(b"-- byte 0 in the text\n", b"\x02abab\0abab");
+}
+
+// The pattern a, and a text of b; then a byte 0 for the pattern.
 fn show_texts() {
     let mut input = [b'b'; LONGEST_TEXT + 3];
     input[0] = 1;
     input[1] = b'a';
     show(b"-- the longest text\n", &input[0..LONGEST_TEXT + 2]);
     show(b"-- a text of one byte more\n", &input[0..LONGEST_TEXT + 3]);
+    input[1] = 0;
+    show(b"-- and a byte 0\n", &input[0..LONGEST_TEXT + 3]);
 }
 
 // The pattern a, and a text of a.
@@ -76,6 +87,7 @@ fn show_lists() {
 
 fn main() {
     show_patterns();
+    show_zeros();
     show_texts();
     show_lists();
 }

@@ -1,18 +1,17 @@
 -- What preparation answers, and what it leaves in the scratch.
 use Prim.Native.Nat.{ℕ, suc}
-use mathlib.Core.Bool.{true, false}
 use mathlib.Core.List.{List, _++_}
-use lib.Dec.{eqb, ltb}
 use lib.ListN.{length, drop, replicate}
 use Rattle.words.specs.Tables as words
-use Rattle.pattern.specs.Sizes.{longestPattern, ranks, scratchSize}
+use Rattle.intake.specs.Sizes.{longestPattern, scratchSize}
+use Rattle.intake.specs.Outcomes.{outcomeOf}
+use Rattle.intake.specs.declared.Outcome.{Outcome}
+use Rattle.intake.specs.declared.Outcome.the-variants.{Ready, Refused}
+use Rattle.pattern.specs.Sizes.{ranks}
 use Rattle.pattern.specs.Lists.{tabulate, padded}
 use Rattle.pattern.specs.Marks.{markWord}
 use Rattle.pattern.specs.declared.Pattern.{Pattern}
 use Rattle.refusal.specs.declared.Refusal.{Refusal}
-use Rattle.refusal.specs.declared.Refusal.the-variants.{NoPattern, LongPattern, ShortScratch}
-use Rattle.pattern.specs.declared.Outcome.{Outcome}
-use Rattle.pattern.specs.declared.Outcome.the-variants.{Ready, Refused}
 use Rattle.pattern.specs.declared.Prepared.{Prepared}
 
 -- The prepared pattern of the bytes w: its tables, with zeros past the entries defined.
@@ -43,17 +42,6 @@ zeroPattern = record {
 unfoldable pub unprepared : Refusal → Prepared
 unfolding zeroPattern
 unprepared why = record { outcome = Refused why; pattern = zeroPattern }
-
--- Tests 1, 2 and 3, in that order, of the bytes w and a scratch of n numbers: the first that holds is the answer, by its number in document
--- 01's table (`numberOf`).
-unfoldable pub outcomeOf : List ℕ → ℕ → Outcome
-outcomeOf w n = elim (eqb (length w) 0) [
-  | true ↦ Refused NoPattern
-  | false ↦ elim (ltb longestPattern (length w)) [
-    | true ↦ Refused LongPattern
-    | false ↦ elim (ltb n scratchSize) [ true ↦ Refused ShortScratch | false ↦ Ready ]
-  ]
-]
 
 -- The answer to the bytes w and a scratch of n numbers.
 unfoldable pub prepared : List ℕ → ℕ → Prepared

@@ -8,14 +8,18 @@ mod marks;
 mod ranks;
 mod sizes;
 
+pub use intake::LONGEST_PATTERN;
+pub use intake::Outcome;
+pub use intake::SCRATCH;
 pub use refusal::Refusal;
-pub use sizes::LONGEST_PATTERN;
 pub use sizes::RANKS;
-pub use sizes::SCRATCH;
 ghost use mathlib.Core.Path.{_≡_};
+ghost use mathlib.Core.Logic.{_↔_};
+ghost use Prim.Native.Nat.{_≤_};
 ghost use lib.ListN.{length};
-ghost use Rattle.pattern.specs.Prepared.{outcomeOf, prepared, scratchAfter, unprepared};
-ghost use Rattle.pattern.specs.Sizes.{scratchSize};
+ghost use Rattle.intake.specs.Sizes.{scratchSize};
+ghost use Rattle.intake.specs.Outcomes.{Preparable};
+ghost use Rattle.pattern.specs.Prepared.{prepared, scratchAfter, unprepared};
 
 // Document 01's card: the pattern and its tables. The entries past those defined are 0.
 #[repr(C)]
@@ -35,31 +39,10 @@ pub struct Pattern {
     pub marks: [u64; 4],
 }
 
-pub enum Outcome {
-    Ready,
-    Refused(Refusal),
-}
-
 // The answer of preparation: the pattern beside a refusal is all zero.
 pub struct Prepared {
     pub outcome: Outcome,
     pub pattern: Pattern,
-}
-
-// Tests 1, 2 and 3, in this order, of bytes and a scratch of so many numbers.
-fn outcome_of(bytes: &[u8], numbers: usize) -> Outcome
-    ensures { λ r. ⌜ r ≡ outcomeOf (now (bytes .entry)) numbers ⌝ }
-{
-    if bytes.len() == 0 {
-        return Outcome::Refused(Refusal::NoPattern);
-    }
-    if LONGEST_PATTERN < bytes.len() {
-        return Outcome::Refused(Refusal::LongPattern);
-    }
-    if numbers < SCRATCH {
-        return Outcome::Refused(Refusal::ShortScratch);
-    }
-    Outcome::Ready
 }
 
 fn refused(why: Refusal) -> Prepared
@@ -80,13 +63,14 @@ fn refused(why: Refusal) -> Prepared
     }
 }
 
-// Prepares a pattern for search. Refused, in this order: no byte (1), more than LONGEST_PATTERN bytes (2), a scratch of fewer than
-// SCRATCH numbers (3). On success the first SCRATCH numbers are 0 and the rest unchanged; on a refusal all are unchanged.
+// Prepares a pattern for search. Refused, in this order: no byte (1), more than LONGEST_PATTERN bytes (2), a byte 0 among them (10), a scratch
+// of fewer than SCRATCH numbers (3). On success the first SCRATCH numbers are 0 and the rest unchanged; on a refusal all are unchanged.
 pub fn prepare(bytes: &[u8], scratch: &mut [u16]) -> Prepared
     ensures answer { λ r. ⌜ r ≡ prepared (now (bytes .entry)) (length (now (scratch .entry))) ⌝ }
     ensures scratched { λ r. ⌜ now (scratch .exit) ≡ scratchAfter (now (bytes .entry)) (now (scratch .entry)) ⌝ }
+    ensures taken { λ r. ⌜ ((r .outcome ≡ Outcome.Ready) ↔ (Preparable (now (bytes .entry)) × (scratchSize ≤ length (now (scratch .entry))))) ⌝ }
 {
-    let outcome = outcome_of(bytes, scratch.len());
+    let outcome = intake::outcome_of(bytes, scratch.len());
     match outcome {
         Outcome::Ready => {
             let pattern = build::build(bytes, scratch);
@@ -102,7 +86,7 @@ pub fn prepare_alone(bytes: &[u8]) -> Prepared
     ensures answer { λ r. ⌜ r ≡ prepared (now (bytes .entry)) scratchSize ⌝ }
 {
     let mut scratch = [0u16; SCRATCH];
-    let outcome = outcome_of(bytes, SCRATCH);
+    let outcome = intake::outcome_of(bytes, SCRATCH);
     match outcome {
         Outcome::Ready => {
             let pattern = build::build(bytes, &mut scratch);

@@ -2,8 +2,8 @@
 use super::entries::wide;
 use super::sizes::BELOWS;
 use super::sizes::KMINS;
-use super::sizes::LONGEST_PATTERN;
 use super::sizes::RANKS;
+use intake::LONGEST_PATTERN;
 ghost use mathlib.Core.Path.{_≡_};
 ghost use mathlib.Core.Bool.{cond};
 ghost use Prim.Native.Nat.{_-_, _<_};

@@ -1,5 +1,10 @@
 -- A report that crosses to C is read back as it was, so what is promised of an answer holds of what C receives. Assumes nothing.
+use Prim.Native.Nat.{ℕ}
 use mathlib.Core.Path.{_≡_, refl}
+use mathlib.Core.Logic.{_↔_}
+use native.Mathlib.Omega.{arith}
+use Rattle.intake.specs.declared.Outcome.{Outcome}
+use Rattle.intake.specs.declared.Outcome.the-variants as outcomes
 use Rattle.refusal.proofs.NotZero.{number-not-0}
 use Rattle.rules.specs.declared.Ending.{Ending}
 use Rattle.rules.specs.declared.Ending.the-variants.{Done, Spent, Full}
@@ -7,8 +12,13 @@ use Rattle.rules.specs.declared.Report.{Report}
 use Rattle.search.specs.declared.SearchAnswer.{SearchAnswer}
 use Rattle.search.specs.declared.SearchAnswer.the-variants.{Ran, Refused}
 use Rattle.search.specs.Promise.{IfRan}
-use Rattle.poqewan.specs.Carried.{endingNumber, endingWindow, endingOf, carriedReport, carried, reportIn}
+use Rattle.poqewan.specs.Carried.{outcomeNumber, endingNumber, endingWindow, endingOf, carriedReport, carried, reportIn}
 use Rattle.poqewan.specs.declared.SearchReport.{SearchReport}
+
+-- What C receives with refusal 0 was ready.
+pub ready-is-0 : (o : Outcome) → (outcomeNumber o ≡ 0) ↔ (o ≡ outcomes.Ready)
+ready-is-0 outcomes.Ready = (λ e. refl, λ e. refl)
+ready-is-0 (outcomes.Refused why) = (λ e. absurd (number-not-0 why e), λ e. absurd (let z : _≡_ {A = ℕ} 0 1 = cc in omega arith))
 
 ending-back : (e : Ending) → endingOf (endingNumber e) (endingWindow e) ≡ e
 ending-back Done = refl

@@ -1,7 +1,7 @@
 -- How answers cross to C: refusals and endings by number.
 use Prim.Native.Nat.{ℕ, zero, suc}
-use Rattle.pattern.specs.declared.Outcome.{Outcome}
-use Rattle.pattern.specs.declared.Outcome.the-variants.{Ready, Refused}
+use Rattle.intake.specs.declared.Outcome.{Outcome}
+use Rattle.intake.specs.declared.Outcome.the-variants.{Ready, Refused}
 use Rattle.pattern.specs.declared.Prepared.{Prepared}
 use Rattle.refusal.specs.Numbers.{numberOf}
 use Rattle.rules.specs.declared.Ending.{Ending}

@@ -6,15 +6,18 @@ use rules::Ending;
 use rules::Report;
 use search::SearchAnswer;
 ghost use mathlib.Core.Path.{_≡_};
+ghost use mathlib.Core.Logic.{_↔_};
 ghost use Prim.Native.Nat.{_+_, _*_, _≤_, _<_};
 ghost use lib.ListN.{length};
 ghost use Rattle.charge.specs.Charged.{charged};
+ghost use Rattle.intake.specs.Sizes.{scratchSize};
+ghost use Rattle.intake.specs.Outcomes.{Preparable};
 ghost use Rattle.pattern.specs.Letters.{wordOf, textOf};
 ghost use Rattle.pattern.specs.Prepared.{prepared, scratchAfter};
 ghost use Rattle.rules.specs.Colussi.{colussi};
 ghost use Rattle.rules.specs.Kmp.{kmp};
 ghost use Rattle.search.specs.Answer.{answerBy, listBy};
-ghost use Rattle.search.specs.Promise.{Located, UnderCeiling, UnderKmpCeiling, AsColussi};
+ghost use Rattle.search.specs.Promise.{Located, UnderCeiling, UnderKmpCeiling, AsColussi, NoZeroCovered};
 ghost use Rattle.poqewan.specs.Carried.{outcomeNumber, carriedPreparation, endingNumber, endingWindow, carriedReport, carried, reportIn};
 
 // The number of a refusal, or 0, and the pattern, which is all zero beside a refusal.
@@ -92,12 +95,14 @@ fn carry(answer: SearchAnswer) -> SearchReport
     }
 }
 
-// Prepares a pattern for search. Refused, in this order: no byte (1), more bytes than the longest pattern has (2), a scratch of too few
-// numbers (3). After success the scratch begins with that many zeros and the rest is unchanged; after a refusal all of it is.
+// Prepares a pattern for search. Refused, in this order: no byte (1), more bytes than the longest pattern has (2), a byte 0 among them (10), a
+// scratch of too few numbers (3). After success the scratch begins with that many zeros and the rest is unchanged; after a refusal all of it
+// is.
 #[no_mangle]
 pub extern "C" fn poqewan_prepare(bytes: &[u8], scratch: &mut [u16]) -> Preparation
     ensures answer { λ r. ⌜ r ≡ carriedPreparation (prepared (now (bytes .entry)) (length (now (scratch .entry)))) ⌝ }
     ensures scratched { λ r. ⌜ now (scratch .exit) ≡ scratchAfter (now (bytes .entry)) (now (scratch .entry)) ⌝ }
+    ensures taken { λ r. ⌜ ((r .refusal ≡ 0) ↔ (Preparable (now (bytes .entry)) × (scratchSize ≤ length (now (scratch .entry))))) ⌝ }
 {
     let got = pattern::prepare(bytes, scratch);
     let pattern = got.pattern;
@@ -120,6 +125,7 @@ pub extern "C" fn poqewan_colussi(
     ensures list { λ r. ⌜ now (positions .exit) ≡ listBy colussi pattern (now (text .entry)) cap (now (positions .entry)) ⌝ }
     ensures accurate { λ r. ⌜ (r .refusal ≡ 0 → Located colussi (wordOf pattern) (textOf pattern (now (text .entry))) cap (now (positions .exit)) (reportIn r)) ⌝ }
     ensures ceiling { λ r. ⌜ (r .refusal ≡ 0 → UnderCeiling (length (wordOf pattern)) (length (now (text .entry))) (reportIn r)) ⌝ }
+    ensures zeros { λ r. ⌜ (r .refusal ≡ 0 → NoZeroCovered (length (wordOf pattern)) (now (text .entry)) (now (positions .exit)) (reportIn r)) ⌝ }
 {
     carry(search::colussi(pattern, text, cap, positions))
 }
@@ -138,6 +144,7 @@ pub extern "C" fn poqewan_kmp(
     ensures accurate { λ r. ⌜ (r .refusal ≡ 0 → Located kmp (wordOf pattern) (textOf pattern (now (text .entry))) cap (now (positions .exit)) (reportIn r)) ⌝ }
     ensures ceiling { λ r. ⌜ (r .refusal ≡ 0 → UnderKmpCeiling (length (wordOf pattern)) (length (now (text .entry))) (reportIn r)) ⌝ }
     ensures same { λ r. ⌜ (r .refusal ≡ 0 → AsColussi (wordOf pattern) (textOf pattern (now (text .entry))) (now (positions .exit)) (reportIn r)) ⌝ }
+    ensures zeros { λ r. ⌜ (r .refusal ≡ 0 → NoZeroCovered (length (wordOf pattern)) (now (text .entry)) (now (positions .exit)) (reportIn r)) ⌝ }
 {
     carry(search::kmp(pattern, text, cap, positions))
 }

@@ -2,7 +2,7 @@
 use mathlib.Core.Path.{_≡_}
 use native.Mathlib.Omega.{arith}
 use Rattle.refusal.specs.declared.Refusal.{Refusal}
-use Rattle.refusal.specs.declared.Refusal.the-variants.{NoPattern, LongPattern, ShortScratch, FalsePattern, LongText, ShortInput}
+use Rattle.refusal.specs.declared.Refusal.the-variants.{NoPattern, LongPattern, ShortScratch, FalsePattern, LongText, ShortInput, ZeroInPattern}
 use Rattle.refusal.specs.Numbers.{numberOf}
 
 pub number-not-0 : (why : Refusal) → numberOf why ≡ 0 → ⊥
@@ -12,3 +12,4 @@ number-not-0 ShortScratch e = omega arith
 number-not-0 FalsePattern e = omega arith
 number-not-0 LongText e = omega arith
 number-not-0 ShortInput e = omega arith
+number-not-0 ZeroInPattern e = omega arith

@@ -1,4 +1,5 @@
-// The refusals of document 01, "Turned away": a variant for each row of its table, with the trade's word for it.
+// The refusals of document 01, "Turned away", and those that document 02 adds: a variant for each row of the table, with the trade's word for
+// it.
 ghost use mathlib.Core.Path.{_≡_};
 ghost use Rattle.refusal.specs.Numbers.{numberOf};
 
@@ -15,6 +16,8 @@ pub enum Refusal {
     LongText,
     // short order
     ShortInput,
+    // C-13: the motif holds byte 0
+    ZeroInPattern,
 }
 
 impl Refusal {
@@ -29,6 +32,7 @@ impl Refusal {
             Refusal::FalsePattern => 4,
             Refusal::LongText => 5,
             Refusal::ShortInput => 6,
+            Refusal::ZeroInPattern => 10,
         }
     }
 }

@@ -3,26 +3,29 @@ use Prim.Native.Nat.{ℕ, _≤_}
 use mathlib.Core.Path.{_≡_, sym, ap, _∙_}
 use mathlib.Core.List.{List, _++_}
 use native.Mathlib.Omega.{arith}
-use lib.ListN.{length, take, drop, length-append, length-drop}
+use lib.ListN.{length, getD, take, drop, length-append, length-drop, List·getD-append}
 use lib.Seq.{take-append-seam}
 use Rattle.admission.specs.Admitted.{IsAdmitted}
 use Rattle.pattern.specs.Letters.{wordOf, textOf}
 use Rattle.pattern.specs.declared.Pattern.{Pattern}
-use Rattle.pattern.proofs.Letters.{length-text}
+use Rattle.pattern.proofs.Letters.{word-own, text-own, length-text}
+use Rattle.checked.specs.Check.{IsPrepared}
 use Rattle.checked.proofs.Reading.{Fields, fields-of}
 use Rattle.rules.specs.Rules.{End, Search}
 use Rattle.rules.specs.Colussi.{colussi}
 use Rattle.rules.specs.Kmp.{kmp}
+use Rattle.rules.specs.Occurs.{Occurs, CoversNo}
 use Rattle.rules.specs.Promise.{CutOff}
 use Rattle.rules.specs.Report.{reportOf, filled}
 use Rattle.rules.specs.declared.Ending.{Ending}
 use Rattle.rules.specs.declared.Ending.the-variants.{Done, Spent, Full}
+use Rattle.rules.proofs.Occurs.{covers-none-lacked}
 use Rattle.rules.proofs.Method.{Finds}
 use Rattle.rules.proofs.ColussiMethod.{colussi-finds, colussi-ceiling}
 use Rattle.rules.proofs.KmpMethod.{kmp-finds, kmp-ceiling}
 use Rattle.rules.proofs.SamePositions.{same-positions}
 use Rattle.search.specs.Answer.{answerBy, listBy}
-use Rattle.search.specs.Promise.{IfRan, Located, UnderCeiling, UnderKmpCeiling, AsColussi}
+use Rattle.search.specs.Promise.{IfRan, Located, UnderCeiling, UnderKmpCeiling, AsColussi, NoZeroCovered}
 use Rattle.search.specs.declared.SearchAnswer.{SearchAnswer}
 use Rattle.search.proofs.Answers.{Answers, promised}
 
@@ -54,15 +57,30 @@ module _ (search : Search) (w t : List ℕ) (cap : ℕ) (lent : List ℕ) where
         cut-off = rw size (F .cut-off);
       }
 
+-- Document 02, C-13: an occurrence of a prepared pattern covers no place where the text holds 0.
+pub occurrence-covers-no-zero : (p : Pattern) (t : List ℕ) (b : ℕ) → IsPrepared p → Occurs (wordOf p) (textOf p t) b → CoversNo 0 (length (wordOf p)) t b
+occurrence-covers-no-zero p t b G O =
+    covers-none-lacked (wordOf p) t 0 b (rw (word-own p) (fields-of p G .no-zero)) (rw (text-own p t) at O)
+
 module _ (p : Pattern) (t : List ℕ) (cap : ℕ) (lent : List ℕ) where
   -- A pattern that is let in has a letter.
   some : IsAdmitted p (length t) → 1 ≤ length (wordOf p)
   some I = let F = fields-of p (I .prepared) in omega (arith, F .some, F .word)
 
+  -- So no occurrence that a search lists covers one.
+  no-zero-covered : (search : Search) → IsAdmitted p (length t) → Finds search (wordOf p) (textOf p t) cap (length lent)
+      → NoZeroCovered (length (wordOf p)) t (filled (search (wordOf p) (textOf p t) cap (length lent)) lent)
+      (reportOf (search (wordOf p) (textOf p t) cap (length lent)))
+  unfolding reportOf filled
+  no-zero-covered search I F i l =
+      let found : List ℕ = search (wordOf p) (textOf p t) cap (length lent) .last .found in
+      rw (List·getD-append found (drop (length found) lent) 0 i l) (occurrence-covers-no-zero p t (getD found i 0) (I .prepared) (F .lists .occur i l))
+
   -- What `colussi` ensures of its answer and its list.
   pub colussi-promises : {r : SearchAnswer} {after : List ℕ} → Answers colussi p t cap lent r after
       → (r ≡ answerBy colussi p t cap (length lent)) × ((after ≡ listBy colussi p t cap lent)
-      × (IfRan (Located colussi (wordOf p) (textOf p t) cap after) r × IfRan (UnderCeiling (length (wordOf p)) (length t)) r))
+      × (IfRan (Located colussi (wordOf p) (textOf p t) cap after) r × (IfRan (UnderCeiling (length (wordOf p)) (length t)) r
+      × IfRan (NoZeroCovered (length (wordOf p)) t after) r)))
   colussi-promises A = (
     A .answer,
     (
@@ -70,8 +88,12 @@ module _ (p : Pattern) (t : List ℕ) (cap : ℕ) (lent : List ℕ) where
       (
         promised colussi p t cap lent (Located colussi (wordOf p) (textOf p t) cap)
             (λ I. located colussi (wordOf p) (textOf p t) cap lent (colussi-finds (wordOf p) (textOf p t) (some I) cap (length lent))) A,
-        promised colussi p t cap lent (λ after r. UnderCeiling (length (wordOf p)) (length t) r)
-            (λ I. unfold reportOf in rw (length-text p t) at (colussi-ceiling (wordOf p) (textOf p t) (some I) cap (length lent))) A,
+        (
+          promised colussi p t cap lent (λ after r. UnderCeiling (length (wordOf p)) (length t) r)
+              (λ I. unfold reportOf in rw (length-text p t) at (colussi-ceiling (wordOf p) (textOf p t) (some I) cap (length lent))) A,
+          promised colussi p t cap lent (NoZeroCovered (length (wordOf p)) t)
+              (λ I. no-zero-covered colussi I (colussi-finds (wordOf p) (textOf p t) (some I) cap (length lent))) A,
+        ),
       ),
     ),
   )
@@ -80,7 +102,7 @@ module _ (p : Pattern) (t : List ℕ) (cap : ℕ) (lent : List ℕ) where
   pub kmp-promises : {r : SearchAnswer} {after : List ℕ} → Answers kmp p t cap lent r after
       → (r ≡ answerBy kmp p t cap (length lent)) × ((after ≡ listBy kmp p t cap lent)
       × (IfRan (Located kmp (wordOf p) (textOf p t) cap after) r × (IfRan (UnderKmpCeiling (length (wordOf p)) (length t)) r
-      × IfRan (AsColussi (wordOf p) (textOf p t) after) r)))
+      × (IfRan (AsColussi (wordOf p) (textOf p t) after) r × IfRan (NoZeroCovered (length (wordOf p)) t after) r))))
   kmp-promises A = (
     A .answer,
     (
@@ -91,9 +113,13 @@ module _ (p : Pattern) (t : List ℕ) (cap : ℕ) (lent : List ℕ) where
         (
           promised kmp p t cap lent (λ after r. UnderKmpCeiling (length (wordOf p)) (length t) r)
               (λ I. unfold reportOf in rw (length-text p t) at (kmp-ceiling (wordOf p) (textOf p t) (some I) cap (length lent))) A,
-          promised kmp p t cap lent (AsColussi (wordOf p) (textOf p t))
-              (λ I done cap' size' done'. begins-with-found (kmp (wordOf p) (textOf p t) cap (length lent)) lent
-              ∙ sym (same-positions (wordOf p) (textOf p t) (some I) cap' size' cap (length lent) done' (unfold reportOf in done))) A,
+          (
+            promised kmp p t cap lent (AsColussi (wordOf p) (textOf p t))
+                (λ I done cap' size' done'. begins-with-found (kmp (wordOf p) (textOf p t) cap (length lent)) lent
+                ∙ sym (same-positions (wordOf p) (textOf p t) (some I) cap' size' cap (length lent) done' (unfold reportOf in done))) A,
+            promised kmp p t cap lent (NoZeroCovered (length (wordOf p)) t)
+                (λ I. no-zero-covered kmp I (kmp-finds (wordOf p) (textOf p t) (some I) cap (length lent))) A,
+          ),
         ),
       ),
     ),

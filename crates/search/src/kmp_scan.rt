@@ -11,7 +11,7 @@ use rules::Report;
 ghost use mathlib.Core.Path.{_≡_};
 ghost use Prim.Native.Nat.{_-_, _^_, _≤_, _<_};
 ghost use lib.ListN.{length, take};
-ghost use Rattle.pattern.specs.Sizes.{longestPattern};
+ghost use Rattle.intake.specs.Sizes.{longestPattern};
 ghost use Rattle.rules.specs.Kmp.{kmp};
 ghost use Rattle.rules.specs.Report.{Reported};
 ghost use Rattle.search.specs.Internal.KmpScan.{HoleShifts, KmpShifts, ShiftsOf};

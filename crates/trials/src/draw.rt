@@ -13,10 +13,11 @@ const FIRST: u64 = 2654435769;
 const SECOND: u64 = 2246822519;
 // Half of the sizes are at most this.
 const SHORT: u64 = 8;
-// A mask for the letters a and b, and one for all bytes.
+// A mask for the letters a and b, and one for many bytes: all bits but one that a and b have, so that no byte is 0, which a pattern must not
+// hold.
 const NO_BIT: u8 = 0;
 
-const ALL_BITS: u8 = 255;
+const MANY_BITS: u8 = 191;
 // What each number of a case decides.
 const LETTERS: u64 = 0;
 
@@ -66,7 +67,7 @@ pub fn pattern(stream: u64, out: &mut [u8]) -> usize
     ensures { λ r. ⌜ (0 < r) × (r ≤ 256) ⌝ }
 {
     let letters = number(stream, LETTERS);
-    let mask = if letters % 4 == 0 { ALL_BITS } else { NO_BIT };
+    let mask = if letters % 4 == 0 { MANY_BITS } else { NO_BIT };
     let mut word = [0u8; LONGEST_PATTERN];
     fill(b"ab", 1, mask, letters, &mut word);
     let unit = size(stream, UNIT);

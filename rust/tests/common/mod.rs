@@ -144,6 +144,13 @@ impl Trial {
             case()
         );
         assert!(
+            positions
+                .iter()
+                .all(|&b| covers_no_zero(text, b, bytes.len())),
+            "{}: an occurrence covers a byte 0",
+            case()
+        );
+        assert!(
             method.keeps_its_ceiling(bytes.len(), text.len(), &expected),
             "{}: count {} is above the ceiling",
             case(),
@@ -163,6 +170,12 @@ fn found(occurrences: &[u32], ending: Ending) -> &[u32] {
     }
 }
 
+/// Whether the m bytes of a text from b on hold no byte 0.
+fn covers_no_zero(text: &[u8], b: u32, m: usize) -> bool {
+    let b = b as usize;
+    !text[b..b + m].contains(&0)
+}
+
 /// Names a case in a message; only the start of a long text is shown.
 fn case(method: Method, bytes: &[u8], text: &[u8], cap: u64, list_len: usize) -> String {
     format!(
@@ -175,7 +188,8 @@ fn case(method: Method, bytes: &[u8], text: &[u8], cap: u64, list_len: usize) ->
 
 /// Prepares a pattern that preparation must accept.
 pub fn prepared(bytes: &[u8]) -> Pattern {
-    poqewan::prepare(bytes, &mut [0xFFFF; SCRATCH]).expect("1 to 256 bytes and enough scratch")
+    poqewan::prepare(bytes, &mut [0xFFFF; SCRATCH])
+        .expect("1 to 256 bytes, none 0, and enough scratch")
 }
 
 /// Both searches must refuse so and leave the list as it is.
@@ -205,6 +219,13 @@ pub fn words(letters: &[u8], len: usize) -> Vec<Vec<u8>> {
 /// A word's first `len` bytes, with the word repeated as far as needed.
 pub fn repeated(word: &[u8], len: usize) -> Vec<u8> {
     word.iter().copied().cycle().take(len).collect()
+}
+
+/// The word with another byte at a place.
+pub fn changed(word: &[u8], place: usize, byte: u8) -> Vec<u8> {
+    let mut word = word.to_vec();
+    word[place] = byte;
+    word
 }
 
 /// A generator of fixed sequences (xorshift).

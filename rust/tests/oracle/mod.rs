@@ -1,10 +1,10 @@
-//! A second implementation, of separate make: the definitions and rules of document 01, written
-//! down as they stand there. Where the document says "the least k that ...", every k is tried in
-//! turn. Only the types are the library's; none of its code is called.
+//! A second implementation, of separate make: the definitions and rules of document 01, and the
+//! requests of document 02, written down as they stand there. Where the document says "the least k
+//! that ...", every k is tried in turn. Only the types are the library's; none of its code is called.
 
 #![allow(dead_code)] // Each test file uses a part of it.
 
-use poqewan::{Ending, Pattern, Report};
+use poqewan::{Ending, Pattern, Refusal, Report};
 
 /// The positions where the pattern occurs: all its bytes stand at b in the text.
 pub fn occurrences(pattern: &[u8], text: &[u8]) -> Vec<u32> {
@@ -17,6 +17,32 @@ pub fn occurrences(pattern: &[u8], text: &[u8]) -> Vec<u32> {
 /// A window as the list holds it.
 fn position(b: usize) -> u32 {
     u32::try_from(b).expect("no text is that long")
+}
+
+/// Preparation's refusal, if any: tests 1, 2, 10 and 3, in this order.
+pub fn preparation_refusal(pattern: &[u8], scratch_len: usize) -> Option<Refusal> {
+    if pattern.is_empty() {
+        Some(Refusal::NoPattern)
+    } else if pattern.len() > 256 {
+        Some(Refusal::LongPattern)
+    } else if pattern.contains(&0) {
+        Some(Refusal::ZeroInPattern)
+    } else if scratch_len < 771 {
+        Some(Refusal::ShortScratch)
+    } else {
+        None
+    }
+}
+
+/// The segments of a text, each with where it begins: byte 0 closes a seat's reflections.
+pub fn segments(text: &[u8]) -> Vec<(usize, &[u8])> {
+    let mut segments = Vec::new();
+    let mut begin = 0;
+    for segment in text.split(|&byte| byte == 0) {
+        segments.push((begin, segment));
+        begin += segment.len() + 1;
+    }
+    segments
 }
 
 /// k is a period if every two bytes k places apart are equal.
@@ -152,7 +178,7 @@ fn fill<T: TryFrom<usize>>(field: &mut [T], table: &[usize]) {
 /// The tables for a value's own length and bytes, if the value is what preparation gives for them.
 pub fn tables_if_true(value: &Pattern) -> Option<Tables> {
     let own = value.bytes.get(..value.len)?;
-    if own.is_empty() {
+    if preparation_refusal(own, usize::MAX).is_some() {
         return None;
     }
     let tables = Tables::of(own);

@@ -1,146 +1,66 @@
--- `job::job` meets its contract: its tests are those of `printed`, in the same order, and what they ask for is put at the buffer's start.
--- Assumes nothing.
+-- `job::job` meets its contract: what `parse` finds in the input is searched or refused, and put at the buffer's start. Assumes nothing.
+use Prim.Native.Nat.{_+_}
+use native.Mathlib.Omega.{arith}
 use borrow.Author.Needs.{needs}
-use Rattle.job.proofs.Answers.{no-input, no-pattern, short-input, long-text, searches, short-buffer, wrote}
+use Rattle.input.specs.Parsed.{Accepted}
+use Rattle.job.proofs.Answers.{accepted, may-search, refuses, searches, short-buffer, wrote}
 use Rattle.job.proofs.job.Statement.{statement}
 use Rattle.job.proofs.job.Tie as tie
 
-returns : tie.Need-returns
-returns c = short-buffer _ _ (c .if1 .taken)
+-- The input is accepted.
+accepted-here : (c : tie.After-parsed) → Accepted (c .before .before .before .before .before .before .args .input .now) (c .parsed .given .0 .0)
+accepted-here c = accepted _ (c .before .before .parse .ensures) _ (c .parsed .given .1)
 
-put-refused-requires : tie.Need-put-refused-requires
-put-refused-requires c κs = search needs
+add-end : tie.Need-add-end
+add-end c = omega (arith, accepted-here (c .before))
 
-same-length : tie.Need-same-length
-same-length c = search needs
+part-searched-end : tie.Need-part-searched-end
+part-searched-end c = omega (arith, accepted-here (c .before))
+
+sub-searched-2 : tie.Need-sub-searched-2
+sub-searched-2 c = omega (arith, accepted-here (c .before .before))
+
+part-searched-start-2 : tie.Need-part-searched-start-2
+part-searched-start-2 c = omega (arith, accepted-here (c .before .before))
+
+searched-requires : tie.Need-searched-requires
+searched-requires c κs =
+    let at-parsed = c .before .before .before .before in
+    let parts = may-search _ (at-parsed .before .before .parse .ensures) _ (at-parsed .parsed .given .1) in
+    (parts .0, parts .1, omega arith)
 
 returns-2 : tie.Need-returns-2
 returns-2 c =
     let at-put = c .before .before in
-    let at-empty = at-put .before .before in
-    let at-room = at-empty .before in
-    wrote _ _ (at-room .if1 .left) (no-input _ (at-empty .if2 .taken)) (at-put .put-refused .ensures)
-
-shared-slice-read-wide : tie.Need-shared-slice-read-wide
-shared-slice-read-wide c = search needs
-
-wide-requires : tie.Need-wide-requires
-wide-requires c κs = search needs
-
-put-refused-requires-2 : tie.Need-put-refused-requires-2
-put-refused-requires-2 c κs = search needs
-
-same-length-2 : tie.Need-same-length-2
-same-length-2 c = search needs
+    let at-parsed = at-put .before .before .before .before .before in
+    let at-parse = at-parsed .before .before in
+    wrote _ _ (at-parse .before .if1 .left) (searches _ (at-parse .parse .ensures) _ (at-parsed .parsed .given .1)) (at-put .searched .ensures)
 
 returns-3 : tie.Need-returns-3
 returns-3 c =
     let at-put = c .before .before in
-    let at-zero = at-put .before .before in
-    let at-len = at-zero .before in
-    let at-room = at-len .before .before .before in
-    wrote _ _ (at-room .if1 .left) (no-pattern _ _ (at-len .wide .ensures .0) (at-zero .if3 .taken))
-    (at-put .put-refused2 .ensures)
-
-add-end : tie.Need-add-end
-add-end c = search needs
-
-put-refused-requires-3 : tie.Need-put-refused-requires-3
-put-refused-requires-3 c κs = search needs
-
-same-length-3 : tie.Need-same-length-3
-same-length-3 c = search needs
-
-returns-4 : tie.Need-returns-4
-returns-4 c =
-    let at-put = c .before .before in
-    let at-short = at-put .before .before in
-    let at-some = at-short .before in
-    let at-len = at-some .before in
-    let at-room = at-len .before .before .before in
-    wrote _ _ (at-room .if1 .left)
-    (short-input _ _ (at-len .wide .ensures .0) (at-some .if3 .left) (at-short .if4 .taken)) (at-put .put-refused3 .ensures)
-
-sub-rest : tie.Need-sub-rest
-sub-rest c = search needs
-
-part-rest-start : tie.Need-part-rest-start
-part-rest-start c = search needs
-
-part-rest-end : tie.Need-part-rest-end
-part-rest-end c = search needs
-
-put-refused-requires-4 : tie.Need-put-refused-requires-4
-put-refused-requires-4 c κs = search needs
-
-same-length-4 : tie.Need-same-length-4
-same-length-4 c = search needs
-
-returns-5 : tie.Need-returns-5
-returns-5 c =
-    let at-put = c .before .before in
-    let at-long = at-put .before .before in
-    let at-whole = at-long .before .before in
-    let at-some = at-whole .before in
-    let at-len = at-some .before in
-    let at-room = at-len .before .before .before in
-    wrote _ _ (at-room .if1 .left)
-    (long-text _ _ (at-len .wide .ensures .0) (at-some .if3 .left) (at-whole .if4 .left) (at-long .if5 .taken))
-    (at-put .put-refused4 .ensures)
-
-sub-searched : tie.Need-sub-searched
-sub-searched c = search needs
-
-part-searched-start : tie.Need-part-searched-start
-part-searched-start c = search needs
-
-part-searched-end : tie.Need-part-searched-end
-part-searched-end c = search needs
-
-searched-requires : tie.Need-searched-requires
-searched-requires c κs = search needs
-
-same-length-5 : tie.Need-same-length-5
-same-length-5 c = search needs
-
-returns-6 : tie.Need-returns-6
-returns-6 c =
-    let at-put = c .before .before in
-    let at-text = at-put .before .before .before in
-    let at-whole = at-text .before .before in
-    let at-some = at-whole .before in
-    let at-len = at-some .before in
-    let at-room = at-len .before .before .before in
-    wrote _ _ (at-room .if1 .left)
-    (searches _ _ (at-len .wide .ensures .0) (at-some .if3 .left) (at-whole .if4 .left) (at-text .if5 .left))
-    (at-put .searched .ensures)
+    let at-parsed = at-put .before .before .before in
+    let at-parse = at-parsed .before .before in
+    wrote _ _ (at-parse .before .if1 .left) (refuses _ (at-parse .parse .ensures) (at-parsed .parsed2 .given .1)) (at-put .put-refused .ensures)
 
 pub job-spec : {M : Type 1} → statement M
 job-spec =
     tie.close
     (tie.spec
-    returns
-    put-refused-requires
-    same-length
-    returns-2
-    shared-slice-read-wide
-    wide-requires
-    put-refused-requires-2
-    same-length-2
-    returns-3
+    (λ c. short-buffer _ _ (c .if1 .taken))
+    (λ c κs. search needs)
+    (λ c. search needs)
     add-end
-    put-refused-requires-3
-    same-length-3
-    returns-4
-    sub-rest
-    part-rest-start
-    part-rest-end
-    put-refused-requires-4
-    same-length-4
-    returns-5
-    sub-searched
-    part-searched-start
+    (λ c. search needs)
+    (λ c. search needs)
     part-searched-end
+    sub-searched-2
+    part-searched-start-2
+    (λ c. search needs)
     searched-requires
-    same-length-5
-    returns-6)
+    (λ c. search needs)
+    (λ c κs. search needs)
+    (λ c. search needs)
+    returns-2
+    (λ c. search needs)
+    returns-3)

@@ -41,7 +41,7 @@ ran : (c : tie.After-colussi)
 ran c =
     let at-prepare = c .before .before .before in
     let entry = at-prepare .before .before .before .before .before in
-    prepared-runs (entry .args .bytes .now) (entry .args .text .now) (entry .pre .0) (entry .pre .1) (omega (arith, entry .pre .2))
+    prepared-runs (entry .args .bytes .now) (entry .args .text .now) (entry .pre .0) (omega (arith, entry .pre .1))
     (at-prepare .prepare .ensures .0) noCap (replicate listSize 0) (c .colussi .ensures .0) (c .colussi .ensures .1 .0)
 
 found-here : (c : tie.After-answer)

@@ -4,42 +4,47 @@ use mathlib.Core.Path.{refl}
 use native.Mathlib.Omega.{arith}
 use lib.ListN.{length-take}
 use borrow.Author.Needs.{needs}
-use Rattle.pattern.proofs.Answers.{room, sizes, success, refusal, cleared, kept}
+use Rattle.pattern.proofs.Answers.{room, sizes, success, refusal, taken, cleared, kept}
 use Rattle.pattern.proofs.prepare.Statement.{statement}
 use Rattle.pattern.proofs.prepare.Tie as tie
 
 build-requires : tie.Need-build-requires
 build-requires c κs =
     let told = c .before in
-    sizes _ _ (told .before .before .outcome-of .ensures) _ (told .enum-told .given .1) refl
+    sizes _ _ (told .before .before .outcome-of .ensures .0) _ (told .enum-told .given .1) refl
 
 slice-relend-prefix-fill : tie.Need-slice-relend-prefix-fill
 slice-relend-prefix-fill c =
     let told = c .before .before .before .before in
-    omega (arith, room _ _ (told .before .before .outcome-of .ensures) (told .enum-told .given .1))
+    omega (arith, room _ _ (told .before .before .outcome-of .ensures .0) (told .enum-told .given .1))
 
 slice-aggregate-fill : tie.Need-slice-aggregate-fill
 slice-aggregate-fill c =
     let told = c .before .before .before .before .before in
-    simp length-take (omega (arith, room _ _ (told .before .before .outcome-of .ensures) (told .enum-told .given .1)))
+    simp length-take (omega (arith, room _ _ (told .before .before .outcome-of .ensures .0) (told .enum-told .given .1)))
 
 returns : tie.Need-returns
 returns c =
     let filled = c .before .before in
     let built = filled .before .before .before .before in
     let told = built .before .before in
-    let tested = told .before .before .outcome-of .ensures in
-    let ready = told .enum-told .given .1 in (
-      success _ _ tested ready (built .build .ensures .0),
-      cleared _ _ tested (built .build .last .1 .0) ready (omega (arith, room _ _ tested ready)) (filled .fill .ensures) (built .build .ensures .1),
+    let tested = told .before .before .outcome-of .ensures .0 in
+    let ready = told .enum-told .given .1 in
+    let answer = success _ _ tested ready (built .build .ensures .0) in (
+      answer,
+      (
+        cleared _ _ tested (built .build .last .1 .0) ready (omega (arith, room _ _ tested ready)) (filled .fill .ensures) (built .build .ensures .1),
+        taken _ _ answer,
+      ),
     )
 
 returns-2 : tie.Need-returns-2
 returns-2 c =
     let outcome = c .before .before in
-    let tested = outcome .before .before .outcome-of .ensures in
+    let tested = outcome .before .before .outcome-of .ensures .0 in
     let told = outcome .outcome .given .1 in
-    (refusal _ _ tested told (c .refused .ensures), kept _ _ tested told)
+    let answer = refusal _ _ tested told (c .refused .ensures) in
+    (answer, (kept _ _ tested told, taken _ _ answer))
 
 pub prepare-spec : {M : Type 1} → statement M
 prepare-spec =

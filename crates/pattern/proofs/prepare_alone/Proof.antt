@@ -8,17 +8,17 @@ use Rattle.pattern.proofs.prepare_alone.Tie as tie
 build-requires : tie.Need-build-requires
 build-requires c κs =
     let told = c .before in
-    sizes _ _ (told .before .before .outcome-of .ensures) _ (told .enum-told .given .1) refl
+    sizes _ _ (told .before .before .outcome-of .ensures .0) _ (told .enum-told .given .1) refl
 
 returns : tie.Need-returns
 returns c =
     let told = c .before .before .before in
-    success _ _ (told .before .before .outcome-of .ensures) (told .enum-told .given .1) (c .before .build .ensures .0)
+    success _ _ (told .before .before .outcome-of .ensures .0) (told .enum-told .given .1) (c .before .build .ensures .0)
 
 returns-2 : tie.Need-returns-2
 returns-2 c =
     let told = c .before .before in
-    refusal _ _ (told .before .before .outcome-of .ensures) (told .outcome .given .1) (c .refused .ensures)
+    refusal _ _ (told .before .before .outcome-of .ensures .0) (told .outcome .given .1) (c .refused .ensures)
 
 pub prepare-alone-spec : {M : Type 1} → statement M
 prepare-alone-spec =

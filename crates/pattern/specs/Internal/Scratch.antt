@@ -4,7 +4,8 @@ use mathlib.Core.Path.{_≡_}
 use mathlib.Core.List.{List}
 use lib.ListN.{length, getD, drop}
 use Rattle.words.specs.Tables.{hmax, kmin, below}
-use Rattle.pattern.specs.Sizes.{belowsAt, kminsAt, longestPattern, scratchSize}
+use Rattle.intake.specs.Sizes.{longestPattern, scratchSize}
+use Rattle.pattern.specs.Sizes.{belowsAt, kminsAt}
 
 -- Lengths that pass the tests.
 pub record Sizes (w s : List ℕ) : Type 0 where

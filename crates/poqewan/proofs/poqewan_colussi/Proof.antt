@@ -12,7 +12,7 @@ returns c =
     let a = at-search .colussi .result in
     let S = at-search .colussi .ensures in
     let C = c .carry .ensures in
-    (C ∙ ap carried (S .0), (S .1 .0, (promised-to-c _ a C (S .1 .1 .0), promised-to-c _ a C (S .1 .1 .1))))
+    (C ∙ ap carried (S .0), (S .1 .0, (promised-to-c _ a C (S .1 .1 .0), (promised-to-c _ a C (S .1 .1 .1 .0), promised-to-c _ a C (S .1 .1 .1 .1)))))
 
 pub poqewan-colussi-spec : {M : Type 1} → statement M
 poqewan-colussi-spec = tie.close (tie.spec (λ c κs. search needs) (λ c κs. search needs) (λ c. search needs) returns)

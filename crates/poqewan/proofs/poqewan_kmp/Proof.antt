@@ -11,9 +11,13 @@ returns c =
     let at-search = c .before .before .before in
     let a = at-search .kmp .result in
     let S = at-search .kmp .ensures in
-    let C = c .carry .ensures in (
+    let C = c .carry .ensures in
+    let rest = S .1 .1 .1 in (
       C ∙ ap carried (S .0),
-      (S .1 .0, (promised-to-c _ a C (S .1 .1 .0), (promised-to-c _ a C (S .1 .1 .1 .0), promised-to-c _ a C (S .1 .1 .1 .1)))),
+      (
+        S .1 .0,
+        (promised-to-c _ a C (S .1 .1 .0), (promised-to-c _ a C (rest .0), (promised-to-c _ a C (rest .1 .0), promised-to-c _ a C (rest .1 .1)))),
+      ),
     )
 
 pub poqewan-kmp-spec : {M : Type 1} → statement M

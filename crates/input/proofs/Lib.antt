@@ -1,0 +1,2 @@
+-- The laws behind the function's proof.
+pub mod Parsing
