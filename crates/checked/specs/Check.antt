@@ -5,7 +5,6 @@ use mathlib.Core.Bool.{Bool, true, false, _&&_}
 use mathlib.Core.List.{List, [], _∷_}
 use lib.Dec.{eqb}
 use Rattle.intake.specs.Sizes.{scratchSize}
-use Rattle.intake.specs.declared.Outcome.{Outcome}
 use Rattle.intake.specs.declared.Outcome.the-variants.{Ready, Refused}
 use Rattle.pattern.specs.Prepared.{prepared}
 use Rattle.pattern.specs.Letters.{ownBytes}

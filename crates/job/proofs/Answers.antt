@@ -1,18 +1,16 @@
 -- What is printed for an input, and what the program's work then answers and leaves in the buffer. Assumes nothing.
-use Prim.Native.Nat.{ℕ, _+_, _-_, _≤_, _<_}
+use Prim.Native.Nat.{ℕ, _≤_, _<_}
 use mathlib.Core.Path.{_≡_, refl, sym, ap, _∙_}
 use mathlib.Core.List.{List, _++_}
 use native.Mathlib.Nat.{zero-add}
-use native.Mathlib.Numerals.{one-add}
-use native.Mathlib.Omega.{arith}
-use lib.ListN.{length, take, drop, length-drop}
-use lib.Seq.{take-all}
+use lib.ListN.{length, drop}
 use borrow.Author.Tests.{lt-ltb, le-ltb}
 use Rattle.refusal.specs.declared.Refusal.{Refusal}
 use Rattle.intake.specs.Outcomes.{Preparable}
-use Rattle.input.specs.Parsed.{longestText, lengthIn, patternIn, textIn, parsed, IfParts, Accepted}
+use Rattle.input.specs.Parsed.{longestText, patternIn, textIn, parsed, IfParts, Accepted}
 use Rattle.input.specs.declared.Parsed.{Parsed}
 use Rattle.input.specs.declared.Parsed.the-variants.{Parts, Refused}
+use Rattle.input.proofs.Cut.{patternCut, textCut, pattern-cut, text-cut}
 use Rattle.rules.specs.Colussi.{colussi}
 use Rattle.job.specs.Limits.{bufferSize, listSize, noCap}
 use Rattle.job.specs.Printed.{refused-line, search-lines, printed}
@@ -21,13 +19,6 @@ use Rattle.job.specs.Internal.Writing.{Puts}
 use Rattle.job.specs.declared.JobAnswer.the-variants.{Wrote, ShortBuffer}
 
 -- ---- What is printed
-
--- The parts of an input as the code cuts them out, where its length byte is len.
-abbrev patternCut : List ℕ → ℕ → List ℕ
-patternCut input len = take (1 + len - 1) (drop 1 input)
-
-abbrev textCut : List ℕ → ℕ → List ℕ
-textCut input len = take (length input - (1 + len)) (drop (1 + len) input)
 
 -- `parse` answered r to an input.
 module _ (input : List ℕ) {r : Parsed} (answered : (r ≡ parsed input) × IfParts (Accepted input) r) where
@@ -39,24 +30,16 @@ module _ (input : List ℕ) {r : Parsed} (answered : (r ≡ parsed input) × IfP
     pub accepted : Accepted input len
     accepted = rw e at (answered .1)
 
-    pattern-is : patternCut input len ≡ patternIn input
-    pattern-is = let n : 1 + len - 1 ≡ lengthIn input = omega (arith, accepted .first) in rw n refl
-
-    text-is : textCut input len ≡ textIn input
-    text-is =
-        take-all (length input - (1 + len)) (drop (1 + len) input) (omega (arith, length-drop (1 + len) input))
-        ∙ rw (one-add, accepted .first) refl
-
     -- What `searched` requires of the parts.
     pub may-search : Preparable (patternCut input len) × (length (textCut input len) ≤ longestText)
-    may-search = (rw pattern-is (accepted .preparable), rw text-is (accepted .fits))
+    may-search = (rw (pattern-cut input len (accepted .first)) (accepted .preparable), rw (text-cut input len (accepted .first)) (accepted .fits))
 
     searches-parts : printed input ≡ search-lines (colussi (patternIn input) (textIn input) noCap listSize)
     unfolding printed
     searches-parts = rw (sym (answered .0) ∙ e, printed) refl
 
     pub searches : printed input ≡ search-lines (colussi (patternCut input len) (textCut input len) noCap listSize)
-    searches = rw (pattern-is, text-is) searches-parts
+    searches = rw (pattern-cut input len (accepted .first), text-cut input len (accepted .first)) searches-parts
 
 -- ---- The answer and the buffer
 

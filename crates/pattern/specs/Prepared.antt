@@ -5,7 +5,6 @@ use lib.ListN.{length, drop, replicate}
 use Rattle.words.specs.Tables as words
 use Rattle.intake.specs.Sizes.{longestPattern, scratchSize}
 use Rattle.intake.specs.Outcomes.{outcomeOf}
-use Rattle.intake.specs.declared.Outcome.{Outcome}
 use Rattle.intake.specs.declared.Outcome.the-variants.{Ready, Refused}
 use Rattle.pattern.specs.Sizes.{ranks}
 use Rattle.pattern.specs.Lists.{tabulate, padded}

@@ -1,6 +1,6 @@
 -- The promises in plain terms, as laws of what a search answers. Assumes nothing.
 use Prim.Native.Nat.{ℕ, _≤_}
-use mathlib.Core.Path.{_≡_, sym, ap, _∙_}
+use mathlib.Core.Path.{_≡_, sym, _∙_}
 use mathlib.Core.List.{List, _++_}
 use native.Mathlib.Omega.{arith}
 use lib.ListN.{length, getD, take, drop, length-append, length-drop, List·getD-append}
@@ -10,7 +10,7 @@ use Rattle.pattern.specs.Letters.{wordOf, textOf}
 use Rattle.pattern.specs.declared.Pattern.{Pattern}
 use Rattle.pattern.proofs.Letters.{word-own, text-own, length-text}
 use Rattle.checked.specs.Check.{IsPrepared}
-use Rattle.checked.proofs.Reading.{Fields, fields-of}
+use Rattle.checked.proofs.Reading.{fields-of}
 use Rattle.rules.specs.Rules.{End, Search}
 use Rattle.rules.specs.Colussi.{colussi}
 use Rattle.rules.specs.Kmp.{kmp}

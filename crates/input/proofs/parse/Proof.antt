@@ -1,6 +1,5 @@
 -- `parse` meets its contract: its tests are those of `parsed`, in the same order. Assumes nothing.
 use mathlib.Core.Path.{sym, _∙_}
-use native.Mathlib.Omega.{arith}
 use borrow.Author.Needs.{needs}
 use Rattle.input.proofs.Parsing.{no-input, no-pattern, short-input, zero-in-pattern, long-text, accepted}
 use Rattle.input.proofs.parse.Statement.{statement}

@@ -1,5 +1,4 @@
 -- `job::job` meets its contract: what `parse` finds in the input is searched or refused, and put at the buffer's start. Assumes nothing.
-use Prim.Native.Nat.{_+_}
 use native.Mathlib.Omega.{arith}
 use borrow.Author.Needs.{needs}
 use Rattle.input.specs.Parsed.{Accepted}
