@@ -2,10 +2,11 @@
 pub mod Stores
 pub mod Hmaxes
 pub mod Kmins
-pub mod Belows
 pub mod Lists
-pub mod Ranked
 pub mod Bits
+pub mod Ranked
+pub mod NoholeRanks
+pub mod HoleRanks
 pub mod Answers
 pub mod Letters
 pub mod Examples

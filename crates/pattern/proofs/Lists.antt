@@ -65,7 +65,7 @@ pub padded-at : (n : ℕ) (l : List ℕ) (i : ℕ) → i < length l → getD (pa
 unfolding padded
 padded-at n l i h = List·getD-append l (replicate (n - length l) 0) 0 i h
 
-tabulate-at : (n : ℕ) (f : ℕ → ℕ) (i : ℕ) → i < n → getD (tabulate n f) i 0 ≡ f i
+pub tabulate-at : (n : ℕ) (f : ℕ → ℕ) (i : ℕ) → i < n → getD (tabulate n f) i 0 ≡ f i
 unfolding tabulate
 tabulate-at zero f i l = absurd (omega arith)
 tabulate-at (suc n) f i l = ⊎-elim

@@ -5,9 +5,9 @@ use Prim.Native.Nat.{ℕ}
 abbrev pub ranks : ℕ
 ranks = 257
 
--- The scratch: where the tables of kmin and of below begin in it, after that of hmax.
+-- The scratch: where the table of kmin begins in it, after that of hmax, and where it ends.
 abbrev pub kminsAt : ℕ
 kminsAt = 257
 
-abbrev pub belowsAt : ℕ
-belowsAt = 514
+abbrev pub kminsEnd : ℕ
+kminsEnd = 514

@@ -1,14 +1,13 @@
 // The whole pattern: the tables are filled in the scratch, and the fields read off them.
 use super::Pattern;
-use super::counts::fill_below;
-use super::entries::wide;
 use super::hmax::fill_hmax;
+use super::holes::list_holes;
 use super::kmin::fill_kmin;
-use super::marks::mark_words;
-use super::ranks::rank_places;
-use super::sizes::BELOWS;
+use super::noholes::list_noholes;
+use super::noholes::next_noholes;
 use super::sizes::RANKS;
 use intake::LONGEST_PATTERN;
+use ones::whole_words;
 ghost use mathlib.Core.Path.{_≡_};
 ghost use Prim.Native.Nat.{_≤_};
 ghost use lib.ListN.{length};
@@ -37,14 +36,35 @@ pub fn read_off(bytes: &[u8], scratch: &[u16]) -> Pattern
     let mut order = [0u8; LONGEST_PATTERN];
     let mut shift = [0u16; RANKS];
     let mut next = [0u16; RANKS];
-    rank_places(bytes, scratch, &mut order, &mut shift, &mut next);
-    let noholes = wide(scratch[BELOWS + bytes.len()]);
-    let marks = mark_words(bytes, scratch);
-    let whole = copied(bytes);
+    let mut later = [0u8; LONGEST_PATTERN];
+    let listed = list_noholes(bytes, scratch, &mut order, &mut shift, &mut later);
+    let noholes = listed.noholes;
+    let marks = listed.marks;
+    let whole = whole_words(&marks);
+    next_noholes(
+        &marks,
+        &whole,
+        &later,
+        listed.later,
+        &order,
+        &shift,
+        &mut next,
+    );
+    list_holes(
+        bytes,
+        scratch,
+        &marks,
+        &whole,
+        noholes,
+        &mut order,
+        &mut shift,
+        &mut next,
+    );
+    let own = copied(bytes);
     Pattern {
         len: bytes.len(),
         noholes,
-        bytes: whole,
+        bytes: own,
         order,
         shift,
         next,
@@ -59,6 +79,5 @@ pub fn build(bytes: &[u8], scratch: &mut [u16]) -> Pattern
 {
     fill_hmax(bytes, scratch);
     fill_kmin(bytes, scratch);
-    fill_below(bytes, scratch);
     read_off(bytes, scratch)
 }

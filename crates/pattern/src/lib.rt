@@ -1,11 +1,10 @@
 // A pattern prepared for search: document 01's card, and its preparation.
 mod build;
-mod counts;
 mod entries;
 mod hmax;
+mod holes;
 mod kmin;
-mod marks;
-mod ranks;
+mod noholes;
 mod sizes;
 
 pub use intake::LONGEST_PATTERN;

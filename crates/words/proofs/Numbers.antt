@@ -116,6 +116,16 @@ unfolding count
 count-mono zero q t h = omega arith
 count-mono (suc n) q t h = omega (arith, bit-mono (q n) (t n) (h n (omega arith)), count-mono n q t (λ i l. h i (omega arith)))
 
+-- Tests that agree count as many, and one that never passes counts none.
+pub count-same : (n : ℕ) (q t : ℕ → Bool) → ((i : ℕ) → i < n → q i ≡ t i) → count n q ≡ count n t
+unfolding count
+count-same zero q t h = refl
+count-same (suc n) q t h = rw (h n (omega arith), count-same n q t (λ i l. h i (omega arith))) refl
+
+pub count-none : (n : ℕ) (q : ℕ → Bool) → ((i : ℕ) → i < n → q i ≡ false) → count n q ≡ 0
+count-none zero q h = count-zero q
+count-none (suc n) q h = count-miss n q (h n (omega arith)) ∙ count-none n q (λ i l. h i (omega arith))
+
 -- Two tests of which one passes wherever a third does count as many together.
 pub count-either :
     (n : ℕ) (q s t : ℕ → Bool) → ((i : ℕ) → i < n → q i ≡ true → (s i ≡ true) ⊎ (t i ≡ true)) → count n q ≤ count n s + count n t

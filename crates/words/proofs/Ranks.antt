@@ -12,7 +12,7 @@ use borrow.Author.Tests.{eq-eqb, ne-eqb, not-true}
 use Rattle.words.specs.Numbers.{count, ascending, descending}
 use Rattle.words.specs.Tables.{nohole, hole, below, noholes, order, place, rank}
 use Rattle.words.proofs.Cases.{less-or, true-or-false, not-both}
-use Rattle.words.proofs.Numbers.{first-is, first-unique, count-le, count-hit, count-miss, count-grows, rest-grows, count-unique}
+use Rattle.words.proofs.Numbers.{first-is, first-unique, count-le, count-hit, count-miss, count-split, count-none, count-grows, rest-grows, count-unique}
 use Rattle.words.proofs.Listing.{length-ascending, ascending-at, length-descending, descending-at, count-not}
 use Rattle.words.proofs.Noholes.{nohole-inside}
 
@@ -34,6 +34,13 @@ module _ (w : List ℕ) where
   pub below-hole : (a : ℕ) → nohole w a ≡ false → below w (suc a) ≡ below w a
   unfolding below
   below-hole a e = count-miss a (nohole w) e
+
+  -- No hole is counted.
+  pub below-same : (a b : ℕ) → a ≤ b → ((x : ℕ) → a ≤ x → x < b → nohole w x ≡ false) → below w b ≡ below w a
+  unfolding below
+  below-same a b l holes =
+      let e : a + (b - a) ≡ b = omega arith in
+      omega (arith, rw e at (count-split a (b - a) (nohole w)), count-none (b - a) (λ i. nohole w (a + i)) (λ i h. holes (a + i) (omega arith) (omega arith)))
 
   -- The holes below a place, a - below(a), grow with it.
   pub holes-grow : (a b : ℕ) → a ≤ b → a + below w b ≤ b + below w a

@@ -2,12 +2,13 @@
 use Prim.Native.Nat.{ℕ, zero, suc, _+_, _-_, _≤_, _<_}
 use mathlib.Core.Path.{_≡_, refl, ap, _∙_}
 use mathlib.Core.Logic.{⊎-elim}
+use mathlib.Core.Bool.{false}
 use mathlib.Core.List.{List}
 use native.Mathlib.Omega.{arith}
 use lib.ListN.{length}
 use borrow.Author.Tests.{lt-ltb, le-ltb}
-use Rattle.words.specs.Tables.{letter, hmax, below, noholes, place, kmin, rmin, shift, next}
-use Rattle.words.proofs.Cases.{less-or}
+use Rattle.words.specs.Tables.{letter, hmax, nohole, below, noholes, place, kmin, rmin, shift, next}
+use Rattle.words.proofs.Cases.{less-or, true-or-false}
 use Rattle.words.proofs.Periods.{MaxPP}
 use Rattle.words.proofs.Noholes.{Hmax, hmax-is, nohole-of, nohole-is, kmin-least, rmin-is}
 use Rattle.words.proofs.Ranks.{below-le, below-grows, below-nohole, NoholeRank, nohole-rank, hole-rank}
@@ -91,6 +92,20 @@ module _ (w : List ℕ) where
     pub next-first : next w 0 ≡ 0
     unfolding h
     next-first = next-nohole 0 any ∙ omega (arith, below-grows w (h - kmin w h) h (omega arith), N .index)
+
+  -- So no nohole lies below hmax(1), whether there are any or not.
+  pub none-below-first : (x : ℕ) → 1 ≤ length w → x ≤ hmax w 1 → below w x ≡ 0
+  unfolding noholes h
+  none-below-first x pos l = ⊎-elim
+      (λ (a : 0 < noholes w). omega (arith, below-grows w x (h a) (omega (arith, not-past a)), N a .index))
+      (λ (a : noholes w ≤ 0). omega (arith, below-grows w x (length w) (omega (arith, hmax-is w 1 (omega arith) pos .upto))))
+      (less-or 0 (noholes w))
+
+  pub hole-before-first : (x : ℕ) → 1 ≤ length w → x < hmax w 1 → nohole w x ≡ false
+  hole-before-first x pos l = ⊎-elim
+      (λ e. absurd (omega (arith, below-nohole w x e, none-below-first (suc x) pos l)))
+      (λ e. e)
+      (true-or-false (nohole w x))
 
   -- ---- Ranges
 

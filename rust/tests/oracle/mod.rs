@@ -45,6 +45,13 @@ pub fn segments(text: &[u8]) -> Vec<(usize, &[u8])> {
     segments
 }
 
+/// The marks at places less than p: place q at bit q mod 64 of word q div 64.
+pub fn marked_below(marks: &[u64; 4], p: usize) -> usize {
+    (0..p)
+        .filter(|&q| marks[q / 64] >> (q % 64) & 1 == 1)
+        .count()
+}
+
 /// k is a period if every two bytes k places apart are equal.
 fn is_period(pattern: &[u8], k: usize) -> bool {
     (k..pattern.len()).all(|p| pattern[p] == pattern[p - k])

@@ -1,11 +1,11 @@
--- What the scratch holds between the steps of preparation: hmax(k) at entry k, kmin(p) at kminsAt + p, below(p) at belowsAt + p.
+-- What the scratch holds between the steps of preparation: hmax(k) at entry k, and kmin(p) at kminsAt + p.
 use Prim.Native.Nat.{ℕ, _+_, _*_, _≤_, _<_}
 use mathlib.Core.Path.{_≡_}
 use mathlib.Core.List.{List}
 use lib.ListN.{length, getD, drop}
-use Rattle.words.specs.Tables.{hmax, kmin, below}
+use Rattle.words.specs.Tables.{hmax, kmin}
 use Rattle.intake.specs.Sizes.{longestPattern, scratchSize}
-use Rattle.pattern.specs.Sizes.{belowsAt, kminsAt}
+use Rattle.pattern.specs.Sizes.{kminsAt}
 
 -- Lengths that pass the tests.
 pub record Sizes (w s : List ℕ) : Type 0 where
@@ -20,15 +20,10 @@ HasHmax w s n = (k : ℕ) → 1 ≤ k → k < n → getD s k 0 ≡ hmax w k
 abbrev pub HasKmin : List ℕ → List ℕ → Type 0
 HasKmin w s = (p : ℕ) → p ≤ length w → getD s (kminsAt + p) 0 ≡ kmin w p
 
--- The counts of the places below n.
-abbrev pub HasBelow : List ℕ → List ℕ → ℕ → Type 0
-HasBelow w s n = (p : ℕ) → p < n → getD s (belowsAt + p) 0 ≡ below w p
-
--- All three tables.
+-- Both tables.
 pub record HasTables (w s : List ℕ) : Type 0 where
   pub hmaxes : HasHmax w s (length w + 1)
   pub kmins : HasKmin w s
-  pub belows : HasBelow w s (length w + 1)
 
 -- Only the first scratchSize entries are changed.
 abbrev pub RestKept : List ℕ → List ℕ → Type 0
@@ -54,10 +49,5 @@ pub record FillsHmax (w before after : List ℕ) (compared : ℕ) : Type 0 where
   pub rest : RestKept before after
 
 pub record FillsKmin (w before after : List ℕ) : Type 0 where
-  pub hmaxes : HasHmax w after (length w + 1)
-  pub kmins : HasKmin w after
-  pub rest : RestKept before after
-
-pub record FillsBelow (w before after : List ℕ) : Type 0 where
   pub tables : HasTables w after
   pub rest : RestKept before after
