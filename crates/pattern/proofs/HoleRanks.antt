@@ -70,7 +70,8 @@ module _ (w : List ℕ) where
   holes-begin d e R = record { rank = omega arith; tables = R }
 
   -- All places are passed at 0.
-  pub holes-end : {orders shifts nexts : List ℕ} (left i : ℕ) → left ≡ 0 → ListsHoles w orders shifts nexts left i → Ranked w orders shifts nexts (length w)
+  pub holes-end : {orders shifts nexts : List ℕ} (left i : ℕ) → left ≡ 0 → ListsHoles w orders shifts nexts left i
+      → Ranked w orders shifts nexts (length w)
   holes-end left i e H =
       let none : below w left ≡ 0 = omega (arith, below-le w left) in
       let all : i ≡ length w = omega (arith, H .rank) in

@@ -176,8 +176,8 @@ module _ (w : List ℕ) where
     lists = list-moved p q (sym (below-same w p q l holes)) (W .lists);
   }
 
-  module _ {orders shifts later : List ℕ} (a p word i t k here : ℕ) (from : a ≤ p) (room : p - a < 64) (inside : p < length w) (least : k ≡ kmin w p)
-      (counts : here ≡ cond (leb k (length w)) 1 0) (W : ListsWord w orders shifts later a p word i t) where
+  module _ {orders shifts later : List ℕ} (a p word i t k here : ℕ) (from : a ≤ p) (room : p - a < 64) (inside : p < length w)
+      (least : k ≡ kmin w p) (counts : here ≡ cond (leb k (length w)) 1 0) (W : ListsWord w orders shifts later a p word i t) where
     -- What is counted is the place's own bit.
     bit : here ≡ cond (nohole w (a + (p - a))) 1 0
     bit = let at : a + (p - a) ≡ p = omega arith in rw (at, ← nohole-test w p k inside least) counts

@@ -18,14 +18,14 @@ ghost use Rattle.pattern.specs.Marks.{markWord};
 ghost use Rattle.pattern.specs.Internal.Scratch.{Sizes, HasTables};
 ghost use Rattle.pattern.specs.Internal.Ranked.{ListsNoholes, ListsWord, Askable, Asks};
 
-// How many of the places from first on a pattern of m bytes has, at most BITS.
-fn places_from(m: usize, first: usize) -> usize
-    ensures { λ r. ⌜ r ≡ min (m - first) 64 ⌝ }
+// How many places a pattern of m bytes has from the place from on, at most BITS.
+fn places_from(m: usize, from: usize) -> usize
+    ensures { λ r. ⌜ r ≡ min (m - from) 64 ⌝ }
 {
-    if m <= first {
+    if m <= from {
         return 0;
     }
-    let n = m - first;
+    let n = m - from;
     if n < BITS { n } else { BITS }
 }
 

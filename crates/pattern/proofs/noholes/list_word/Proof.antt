@@ -86,7 +86,10 @@ add-word c =
     let at = at-loop (c .before .before .before) in
     let args = at-start (at .before) .args in
     let U = under (c .before .before .before) in
-    record { fits = word-room (args .bytes .now) (args .from) (at .loop .p) (at .loop .word) (at .loop .i) (at .loop .t) _ _ (U .1) (U .2) (U .0) (read (c .before)) (c .one-if .ensures .0) (at .loop .inv .lists) }
+    let fits =
+    word-room (args .bytes .now) (args .from) (at .loop .p) (at .loop .word) (at .loop .i) (at .loop .t) _ _ (U .1) (U .2) (U .0)
+    (read (c .before)) (c .one-if .ensures .0) (at .loop .inv .lists) in
+    record { fits = fits }
 
 loop-again : tie.Need-loop-again Inv-loop μ-loop
 loop-again c =
