@@ -53,13 +53,13 @@ static bool same_pattern(const poqewan_pattern *a, const poqewan_pattern *b)
 
 static bool prepare_alike(const struct version *a, const struct version *b, const uint8_t *bytes, size_t m)
 {
-    uint16_t scratch[POQEWAN_SCRATCH], other[POQEWAN_SCRATCH];
+    uint16_t scratch[LENT_SCRATCH], other[LENT_SCRATCH];
     memset(scratch, 0xff, sizeof scratch);
     memset(other, 0xff, sizeof other);
-    const poqewan_preparation first = a->prepare(bytes, m, scratch, POQEWAN_SCRATCH);
-    const poqewan_preparation second = b->prepare(bytes, m, other, POQEWAN_SCRATCH);
+    const poqewan_preparation first = a->prepare(bytes, m, scratch, LENT_SCRATCH);
+    const poqewan_preparation second = b->prepare(bytes, m, other, LENT_SCRATCH);
     return first.refusal == second.refusal && same_pattern(&first.pattern, &second.pattern)
-        && memcmp(scratch, other, sizeof scratch) == 0;
+        && memcmp(scratch, other, POQEWAN_SCRATCH * sizeof *scratch) == 0;
 }
 
 bool versions_agree(const struct version *a, const struct version *b, const struct subject *subject, struct lists lists)

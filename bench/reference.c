@@ -42,7 +42,7 @@ static poqewan_report colussi(const struct subject *subject, uint64_t cap, uint3
 }
 
 /* The shift at each matched length: kmin at a nohole, which the pattern has by rank; p + 1 at a hole p; rmin(0) at m. */
-static void shifts_by_length(const poqewan_pattern *pattern, uint16_t shifts[257])
+static void shifts_by_length(const poqewan_pattern *pattern, uint16_t shifts[POQEWAN_LONGEST_PATTERN + 1])
 {
     for (size_t p = 0; p < pattern->len; p++)
         shifts[p] = (uint16_t)(p + 1);
@@ -58,7 +58,7 @@ static poqewan_report kmp(const struct subject *subject, uint64_t cap, uint32_t 
     const size_t n = subject->n, m = pattern->len;
     size_t b = 0, i = 0, written = 0;
     uint64_t c = 0;
-    uint16_t shifts[257];
+    uint16_t shifts[POQEWAN_LONGEST_PATTERN + 1];
     shifts_by_length(pattern, shifts);
 
     while (b + m <= n) {

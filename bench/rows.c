@@ -43,8 +43,8 @@ void make(const struct input *input)
     else
         make_in_turn(input->family, bytes, input->m);
     for (size_t i = 0; i < subjects_of(input); i++) {
-        uint16_t scratch[POQEWAN_SCRATCH];
-        const poqewan_preparation prepared = versions[OURS][0]->prepare(bytes[i], input->m, scratch, POQEWAN_SCRATCH);
+        uint16_t scratch[LENT_SCRATCH];
+        const poqewan_preparation prepared = versions[OURS][0]->prepare(bytes[i], input->m, scratch, LENT_SCRATCH);
         if (prepared.refusal != 0) {
             fprintf(stderr, "bench: a pattern is refused with %u\n", (unsigned)prepared.refusal);
             exit(1);
@@ -69,9 +69,9 @@ static void run_kmp(int side, int copy)
 
 static void run_preparation(int side, int copy)
 {
-    uint16_t scratch[POQEWAN_SCRATCH];
+    uint16_t scratch[LENT_SCRATCH];
     for (size_t i = 0; i < IN_TURN; i++)
-        versions[side][copy]->prepare(subjects[i].pattern.bytes, subjects[i].pattern.len, scratch, POQEWAN_SCRATCH);
+        versions[side][copy]->prepare(subjects[i].pattern.bytes, subjects[i].pattern.len, scratch, LENT_SCRATCH);
 }
 
 /* The search of an empty text does nothing else. */

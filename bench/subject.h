@@ -21,6 +21,9 @@ struct version {
     uint64_t (*charge)(uint64_t count);
 };
 
+/* The scratch that is lent to preparation, in numbers: what builds from before C-18 ask for. Later ones leave its end alone. */
+#define LENT_SCRATCH 771
+
 /* The one of library.c or of reference.c. A copy of it, linked by `run`, has a name of its own. */
 extern const struct version version;
 

@@ -13,6 +13,10 @@
    cache can double its time, and nothing shall gain by that. A round runs one copy. */
 #define COPIES 8
 
+/* The same goes for the stack: for each copy it lies lower than for the last by an eighth of a page and 16 bytes, so that the
+   copies meet every place in a line, and places all over a page. */
+#define LOWER_STACK 528
+
 /* What is done by the variants that take turns. */
 struct work {
     const char *name;

@@ -30,7 +30,7 @@ extern "C" {
 /* The longest pattern and the longest text that are accepted, and the least scratch. */
 #define POQEWAN_LONGEST_PATTERN 256
 #define POQEWAN_LONGEST_TEXT 16777216
-#define POQEWAN_SCRATCH 771
+#define POQEWAN_SCRATCH 514
 
 /* Refusals, by their numbers. Where more than one applies, the first in the function's order of tests is given. */
 #define POQEWAN_NO_PATTERN 1

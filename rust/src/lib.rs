@@ -36,7 +36,7 @@ pub const LONGEST_PATTERN: usize = 256;
 pub const LONGEST_TEXT: usize = 16_777_216;
 
 /// The least scratch, in numbers.
-pub const SCRATCH: usize = 771;
+pub const SCRATCH: usize = 514;
 
 /// A pattern prepared for search: m bytes, none of them 0, and their tables. The entries past those
 /// defined are 0.

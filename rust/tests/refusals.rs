@@ -4,8 +4,11 @@ mod common;
 mod oracle;
 
 use common::{assert_refused, changed, prepared, repeated, words, Random, Trial};
-use oracle::Tables;
-use poqewan::{Pattern, Refusal, LONGEST_PATTERN, SCRATCH};
+use oracle::{Tables, LONGEST_PATTERN, SCRATCH};
+use poqewan::{Pattern, Refusal};
+
+/// The least scratch before C-18.
+const FORMER_SCRATCH: usize = 771;
 
 /// Prepares a pattern, and checks the answer and the scratch. Gives the refusal, if any.
 fn check_preparation(bytes: &[u8], scratch_len: usize) -> Option<Refusal> {
@@ -16,26 +19,65 @@ fn check_preparation(bytes: &[u8], scratch_len: usize) -> Option<Refusal> {
 
     let case = format!("{} bytes, scratch of {scratch_len}", bytes.len());
     let refusal = oracle::preparation_refusal(bytes, scratch_len);
-    if let Some(why) = refusal {
-        assert_eq!(answer, Err(why), "{case}");
-        assert_eq!(scratch, lent, "{case}");
-    } else {
-        assert_eq!(answer, Ok(Tables::of(bytes).pattern()), "{case}");
-        assert_eq!(scratch[..SCRATCH], [0; SCRATCH], "{case}");
-        assert_eq!(scratch[SCRATCH..], lent[SCRATCH..], "{case}");
+    match refusal {
+        Some(why) => assert_eq!(answer, Err(why), "{case}"),
+        None => assert_eq!(answer, Ok(Tables::of(bytes).pattern()), "{case}"),
     }
+    assert_eq!(scratch, oracle::scratch_after(bytes, &lent), "{case}");
     refusal
 }
 
 #[test]
 fn preparation_refuses_in_order_and_leaves_the_scratch_as_promised() {
     let mut random = Random::new(31);
-    for pattern_len in [0, 1, 2, 255, 256, 257, 258, 512, 10_000] {
-        for scratch_len in [0, 1, 769, 770, 771, 772, 1_000, 5_000] {
+    let longest = LONGEST_PATTERN;
+    for pattern_len in [0, 1, 2, longest - 1, longest, longest + 1, 512, 10_000] {
+        for scratch_len in [0, 1, SCRATCH - 1, SCRATCH, SCRATCH + 1, 1_000, 5_000] {
             check_preparation(&random.word(b"ab", pattern_len), scratch_len);
             check_preparation(&repeated(b"a", pattern_len), scratch_len);
             check_preparation(&repeated(b"ab\0", pattern_len), scratch_len);
         }
+    }
+}
+
+/// Patterns of one byte and of the most, with tables of every kind.
+fn shortest_and_longest() -> [Vec<u8>; 4] {
+    let longest = LONGEST_PATTERN;
+    [
+        b"a".to_vec(),
+        repeated(b"a", longest),
+        repeated(b"aab", longest),
+        Random::new(38).word(b"ab", longest),
+    ]
+}
+
+#[test]
+fn a_scratch_at_its_edges() {
+    for bytes in shortest_and_longest() {
+        let refusal = check_preparation(&bytes, SCRATCH - 1);
+        assert_eq!(refusal, Some(Refusal::ShortScratch));
+        for scratch_len in [SCRATCH, SCRATCH + 1, FORMER_SCRATCH] {
+            assert_eq!(check_preparation(&bytes, scratch_len), None);
+        }
+    }
+}
+
+#[test]
+fn a_scratch_of_every_length() {
+    for bytes in shortest_and_longest() {
+        for scratch_len in 0..=FORMER_SCRATCH + 1 {
+            check_preparation(&bytes, scratch_len);
+        }
+    }
+}
+
+#[test]
+fn a_scratch_of_771_keeps_its_last_257_numbers() {
+    for bytes in shortest_and_longest() {
+        let mut scratch = [0xA5A5; FORMER_SCRATCH];
+        assert!(poqewan::prepare(&bytes, &mut scratch).is_ok());
+        assert_eq!(scratch[..SCRATCH], [0; SCRATCH]);
+        assert_eq!(scratch[SCRATCH..], [0xA5A5; LONGEST_PATTERN + 1]);
     }
 }
 
@@ -44,27 +86,29 @@ fn a_byte_0_is_refused_at_every_place() {
     let mut random = Random::new(37);
     for len in [1, 2, 3, 4, 15, 16, 17, 31, 32, 33, 63, 64, 65, 255, 256] {
         let word = random.word(b"ab\x01\xFF", len);
-        assert_eq!(check_preparation(&word, 771), None);
+        assert_eq!(check_preparation(&word, SCRATCH), None);
         for place in 0..len {
             let word = changed(&word, place, 0);
-            let refusal = check_preparation(&word, 771);
+            let refusal = check_preparation(&word, SCRATCH);
             assert_eq!(refusal, Some(Refusal::ZeroInPattern), "{len}, {place}");
         }
     }
-    let zeros = [0; 256];
-    assert_eq!(check_preparation(&zeros, 771), Some(Refusal::ZeroInPattern));
+    let refusal = check_preparation(&[0; LONGEST_PATTERN], SCRATCH);
+    assert_eq!(refusal, Some(Refusal::ZeroInPattern));
 }
 
 #[test]
 fn a_byte_0_is_refused_after_a_long_pattern_and_before_a_short_scratch() {
     for place in [0, 128, 255, 256] {
-        let word = changed(&[b'a'; 257], place, 0);
-        assert_eq!(check_preparation(&word, 771), Some(Refusal::LongPattern));
-        assert_eq!(check_preparation(&word, 770), Some(Refusal::LongPattern));
+        let word = changed(&[b'a'; LONGEST_PATTERN + 1], place, 0);
+        for scratch_len in [SCRATCH - 1, SCRATCH] {
+            let refusal = check_preparation(&word, scratch_len);
+            assert_eq!(refusal, Some(Refusal::LongPattern));
+        }
     }
     for place in [0, 128, 255] {
-        let word = changed(&[b'a'; 256], place, 0);
-        for scratch_len in [0, 770] {
+        let word = changed(&[b'a'; LONGEST_PATTERN], place, 0);
+        for scratch_len in [0, SCRATCH - 1] {
             let refusal = check_preparation(&word, scratch_len);
             assert_eq!(refusal, Some(Refusal::ZeroInPattern));
         }
@@ -110,6 +154,8 @@ fn a_byte_0_past_the_length_is_no_matter() {
 
 #[test]
 fn the_constants_are_the_edges() {
+    assert_eq!(poqewan::LONGEST_PATTERN, LONGEST_PATTERN);
+    assert_eq!(poqewan::SCRATCH, SCRATCH);
     let longest = [b'a'; LONGEST_PATTERN + 1];
     let mut scratch = [0; SCRATCH];
     assert!(poqewan::prepare(&longest[1..], &mut scratch).is_ok());
@@ -142,11 +188,21 @@ fn check_each_change(bytes: &[u8]) {
     check_value(&pattern);
 
     let m = bytes.len();
-    for len in [0, 1, m - 1, m + 1, 2 * m, 255, 256, 257, usize::MAX] {
+    let most = LONGEST_PATTERN;
+    for len in [0, 1, m - 1, m + 1, 2 * m, most, most + 1, usize::MAX] {
         check_value(&Pattern { len, ..pattern });
     }
     let d = pattern.noholes;
-    for noholes in [0, 1, d.wrapping_sub(1), d + 1, m, 256, 257, usize::MAX] {
+    for noholes in [
+        0,
+        1,
+        d.wrapping_sub(1),
+        d + 1,
+        m,
+        most,
+        most + 1,
+        usize::MAX,
+    ] {
         check_value(&Pattern { noholes, ..pattern });
     }
     check_each_entry(&pattern, u8::MAX, |pattern| &mut pattern.bytes);
@@ -272,16 +328,16 @@ fn values_of_random_junk() {
         let mut junk = Pattern {
             len: random.number() as usize,
             noholes: random.number() as usize,
-            bytes: [(); 256].map(|()| random.number() as u8),
-            order: [(); 256].map(|()| random.number() as u8),
-            shift: [(); 257].map(|()| random.number() as u16),
-            next: [(); 257].map(|()| random.number() as u16),
+            bytes: [(); LONGEST_PATTERN].map(|()| random.number() as u8),
+            order: [(); LONGEST_PATTERN].map(|()| random.number() as u8),
+            shift: [(); LONGEST_PATTERN + 1].map(|()| random.number() as u16),
+            next: [(); LONGEST_PATTERN + 1].map(|()| random.number() as u16),
             marks: [(); 4].map(|()| random.number()),
         };
         // Half of the values have a length and a number of noholes that could be.
         if round % 2 == 0 {
-            junk.len %= 257;
-            junk.noholes %= 256;
+            junk.len %= LONGEST_PATTERN + 1;
+            junk.noholes %= LONGEST_PATTERN;
         }
         check_value(&junk);
     }

@@ -4,6 +4,7 @@ mod common;
 mod oracle;
 
 use common::{Method, Trial, UNWRITTEN};
+use oracle::LONGEST_PATTERN;
 use poqewan::Ending::{self, Done, Full, Spent};
 
 const NO_CAP: u64 = u64::MAX;
@@ -95,7 +96,7 @@ fn check_tables(bytes: &[u8], order: &[u8], shift: &[u16]) {
     let pattern = trial.pattern();
     assert_eq!(pattern.order[..order.len()], *order);
     assert_eq!(pattern.shift[..shift.len()], *shift);
-    assert_eq!(pattern.next, [0; 257]);
+    assert_eq!(pattern.next, [0; LONGEST_PATTERN + 1]);
 }
 
 #[test]

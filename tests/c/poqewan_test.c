@@ -11,6 +11,11 @@
 #include <stdlib.h>
 #include <string.h>
 
+/* The sizes, as the documents have them. */
+_Static_assert(POQEWAN_LONGEST_PATTERN == 256, "the longest pattern");
+_Static_assert(POQEWAN_LONGEST_TEXT == 16777216, "the longest text");
+_Static_assert(POQEWAN_SCRATCH == 514, "the least scratch");
+
 /* The layout that the archive was built with. */
 _Static_assert(sizeof(poqewan_pattern) == 1592, "poqewan_pattern");
 _Static_assert(offsetof(poqewan_pattern, len) == 0, "len");
@@ -31,7 +36,7 @@ _Static_assert(offsetof(poqewan_report, count) == 16, "count");
 _Static_assert(offsetof(poqewan_report, written) == 24, "written");
 
 /* The bytes of a pattern that belong to no field. */
-#define PADDING_FROM (offsetof(poqewan_pattern, next) + 257 * sizeof(uint16_t))
+#define PADDING_FROM (offsetof(poqewan_pattern, next) + sizeof ((poqewan_pattern *)NULL)->next)
 #define PADDING_TO offsetof(poqewan_pattern, marks)
 
 /* What lists and scratches hold before a call. */
@@ -243,17 +248,17 @@ static void test_worked_tables(void)
 {
     static const uint8_t aba_order[] = {1, 2, 0}, aabaa_order[] = {2, 4, 3, 1, 0};
     static const uint16_t aba_shift[] = {1, 3, 2, 2}, aabaa_shift[] = {1, 5, 4, 3, 3, 3};
-    static const uint16_t all_zero[257];
+    static const poqewan_pattern zero;
 
     poqewan_pattern pattern = prepared("aba");
     CHECK(memcmp(pattern.order, aba_order, sizeof aba_order) == 0);
     CHECK(memcmp(pattern.shift, aba_shift, sizeof aba_shift) == 0);
-    CHECK(memcmp(pattern.next, all_zero, sizeof all_zero) == 0);
+    CHECK(memcmp(pattern.next, zero.next, sizeof zero.next) == 0);
 
     pattern = prepared("aabaa");
     CHECK(memcmp(pattern.order, aabaa_order, sizeof aabaa_order) == 0);
     CHECK(memcmp(pattern.shift, aabaa_shift, sizeof aabaa_shift) == 0);
-    CHECK(memcmp(pattern.next, all_zero, sizeof all_zero) == 0);
+    CHECK(memcmp(pattern.next, zero.next, sizeof zero.next) == 0);
 }
 
 static void test_charge(void)
@@ -265,11 +270,16 @@ static void test_charge(void)
     CHECK(poqewan_charge(UINT64_MAX) == UINT64_C(18446744073709552));
 }
 
+/* The least scratch before C-18. */
+#define FORMER_SCRATCH 771
+
+#define AROUND(size) (size) - 1, (size), (size) + 1
+
 /* Refusals 1, 2 and 3, each at its edges, in their order. */
 static void test_preparation(void)
 {
-    static const size_t lengths[] = {0, 1, 2, 255, 256, 257, 1000};
-    static const size_t scratches[] = {0, 1, 770, 771, 772, 1000};
+    static const size_t lengths[] = {0, 1, 2, AROUND(POQEWAN_LONGEST_PATTERN), 1000};
+    static const size_t scratches[] = {0, 1, AROUND(POQEWAN_SCRATCH), FORMER_SCRATCH, 1000};
     uint8_t bytes[1000];
     random_letters(bytes, sizeof bytes, 2);
     for (size_t i = 0; i < sizeof lengths / sizeof *lengths; i++)
@@ -287,16 +297,17 @@ static void test_preparation(void)
    short. A pattern that is too long as well is refused for that. */
 static void test_zero_in_pattern(void)
 {
-    static const size_t lengths[] = {1, 2, 3, 16, 33, 255, 256, 257};
-    static const size_t scratches[] = {0, 770, 771, 1000};
-    uint8_t bytes[257];
+    static const size_t lengths[] = {1, 2, 3, 16, 33, AROUND(POQEWAN_LONGEST_PATTERN)};
+    static const size_t scratches[] = {0, AROUND(POQEWAN_SCRATCH), 1000};
+    uint8_t bytes[POQEWAN_LONGEST_PATTERN + 1];
     for (size_t i = 0; i < sizeof lengths / sizeof *lengths; i++)
         for (size_t j = 0; j < sizeof scratches / sizeof *scratches; j++) {
             size_t m = lengths[i], places[] = {0, m / 2, m - 1};
             for (size_t k = 0; k < 3; k++) {
                 random_letters(bytes, m, 2);
                 bytes[places[k]] = 0;
-                prepare(bytes, m, scratches[j], m > 256 ? POQEWAN_LONG_PATTERN : POQEWAN_ZERO_IN_PATTERN);
+                prepare(bytes, m, scratches[j],
+                        m > POQEWAN_LONGEST_PATTERN ? POQEWAN_LONG_PATTERN : POQEWAN_ZERO_IN_PATTERN);
             }
         }
 }
@@ -366,7 +377,7 @@ static void test_changed_patterns(void)
 
 static void test_false_lengths(void)
 {
-    static const size_t lengths[] = {0, 2, 4, 255, 256, 257, 258, SIZE_MAX};
+    static const size_t lengths[] = {0, 2, 4, AROUND(POQEWAN_LONGEST_PATTERN), SIZE_MAX};
     uint8_t *text = lend_bytes("ababa", 5);
     for (size_t i = 0; i < sizeof lengths / sizeof *lengths; i++) {
         poqewan_pattern pattern = prepared("aba");
@@ -387,8 +398,8 @@ static void test_junk(size_t rounds)
         for (size_t at = 0; at < sizeof junk; at++)
             ((uint8_t *)&junk)[at] = (uint8_t)random_number();
         if (round % 2 == 0) {
-            junk.len %= 257;
-            junk.noholes %= 256;
+            junk.len %= POQEWAN_LONGEST_PATTERN + 1;
+            junk.noholes %= POQEWAN_LONGEST_PATTERN;
         }
         check_refused(&junk, text, 10, POQEWAN_FALSE_PATTERN);
     }

@@ -5,6 +5,6 @@ use Prim.Native.Nat.{ℕ}
 abbrev pub longestPattern : ℕ
 longestPattern = 256
 
--- The least scratch, in numbers.
+-- The least scratch, in numbers, as document 02 (C-18) has it.
 abbrev pub scratchSize : ℕ
-scratchSize = 771
+scratchSize = 514

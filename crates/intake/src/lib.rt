@@ -10,8 +10,8 @@ ghost use Rattle.intake.specs.Outcomes.{outcomeOf, Preparable};
 
 // The longest pattern, in bytes.
 pub const LONGEST_PATTERN: usize = 256;
-// The least scratch, document 01's bench, in 16-bit numbers.
-pub const SCRATCH: usize = 771;
+// The least scratch, document 01's bench, in 16-bit numbers, as document 02 (C-18) has it: room for two tables of LONGEST_PATTERN + 1.
+pub const SCRATCH: usize = 514;
 
 pub enum Outcome {
     Ready,

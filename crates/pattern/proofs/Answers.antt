@@ -1,10 +1,10 @@
 -- What preparation answers in each case, and what it leaves in the scratch. Assumes nothing.
 use Prim.Native.Nat.{ℕ, _≤_}
-use mathlib.Core.Path.{_≡_, refl, sym, _∙_}
+use mathlib.Core.Path.{_≡_, refl, sym, ap, _∙_}
 use mathlib.Core.Logic.{_↔_}
 use mathlib.Core.List.{List, _++_}
-use lib.ListN.{length, take, drop, replicate}
-use lib.Seq.{length-take-le}
+use lib.ListN.{length, take, drop, replicate, length-replicate}
+use lib.Seq.{length-take-le, take-append-seam, drop-append-seam}
 use Rattle.words.specs.Tables.{noholes}
 use Rattle.intake.specs.Sizes.{longestPattern, scratchSize}
 use Rattle.intake.specs.Outcomes.{outcomeOf, Preparable}
@@ -13,7 +13,7 @@ use Rattle.intake.specs.declared.Outcome.the-variants.{Ready, Refused}
 use Rattle.intake.proofs.Outcomes.{ready-is, ready-iff}
 use Rattle.pattern.specs.Lists.{tabulate, padded}
 use Rattle.pattern.specs.Marks.{markWord}
-use Rattle.pattern.specs.Prepared.{patternOf, unprepared, prepared, scratchAfter}
+use Rattle.pattern.specs.Prepared.{patternOf, unprepared, prepared, scratchAfter, Cleared}
 use Rattle.pattern.specs.Internal.Scratch.{Sizes, RestKept}
 use Rattle.pattern.specs.Internal.Ranked.{RankedAll}
 use Rattle.pattern.specs.declared.Pattern.{Pattern}
@@ -71,6 +71,14 @@ module _ (w : List ℕ) (n : ℕ) {o : Outcome} (tested : o ≡ outcomeOf w n) w
 
 -- ---- For the scratch
 
+-- n numbers v and what follows them, told apart again.
+seam : (n v : ℕ) (l : List ℕ) → (take n (replicate n v ++ l) ≡ replicate n v) × (drop n (replicate n v ++ l) ≡ l)
+seam n v l =
+    let size = length-replicate n v in (
+      rw size at (take-append-seam (replicate n v) l),
+      rw size at (drop-append-seam (replicate n v) l),
+    )
+
 module _ (w s : List ℕ) where
   after-ready : outcomeOf w (length s) ≡ Ready → scratchAfter w s ≡ replicate scratchSize 0 ++ drop scratchSize s
   unfolding scratchAfter
@@ -80,11 +88,18 @@ module _ (w s : List ℕ) where
   unfolding scratchAfter
   after-refused e = rw (e, scratchAfter) refl
 
+  -- In plain terms, where the answer is that it is ready.
+  pub cleared : {r : Prepared} {t : List ℕ} → r ≡ prepared w (length s) → t ≡ scratchAfter w s → r .outcome ≡ Ready → Cleared s t
+  cleared answer after ready =
+      let told = sym (outcome-is w (length s)) ∙ ap (λ (a : Prepared). a .outcome) (sym answer) ∙ ready in
+      let parts = seam scratchSize 0 (drop scratchSize s) in
+      rw (after, after-ready told) (record { zeros = parts .0; rest = parts .1 })
+
   module _ {o : Outcome} (tested : o ≡ outcomeOf w (length s)) where
     -- The first part of t, what the scratch then holds, was filled with zeros, and the rest is as it was.
-    pub cleared : {part : List ℕ} (t : List ℕ) → o ≡ Ready → scratchSize ≤ length t → part ≡ replicate (length (take scratchSize t)) 0 → RestKept s t
+    pub zeroed : {part : List ℕ} (t : List ℕ) → o ≡ Ready → scratchSize ≤ length t → part ≡ replicate (length (take scratchSize t)) 0 → RestKept s t
         → part ++ drop scratchSize t ≡ scratchAfter w s
-    cleared t e l f k = rw (f, length-take-le scratchSize t l, k) (sym (after-ready (sym tested ∙ e)))
+    zeroed t e l f k = rw (f, length-take-le scratchSize t l, k) (sym (after-ready (sym tested ∙ e)))
 
     pub kept : {why : Refusal} → o ≡ Refused why → s ≡ scratchAfter w s
     kept e = sym (after-refused (sym tested ∙ e))

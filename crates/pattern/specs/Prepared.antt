@@ -1,7 +1,8 @@
 -- What preparation answers, and what it leaves in the scratch.
 use Prim.Native.Nat.{ℕ, suc}
+use mathlib.Core.Path.{_≡_}
 use mathlib.Core.List.{List, _++_}
-use lib.ListN.{length, drop, replicate}
+use lib.ListN.{length, take, drop, replicate}
 use Rattle.words.specs.Tables as words
 use Rattle.intake.specs.Sizes.{longestPattern, scratchSize}
 use Rattle.intake.specs.Outcomes.{outcomeOf}
@@ -54,3 +55,8 @@ prepared w n = elim (outcomeOf w n) [
 unfoldable pub scratchAfter : List ℕ → List ℕ → List ℕ
 unfolding outcomeOf
 scratchAfter w s = elim (outcomeOf w (length s)) [ Ready ↦ replicate scratchSize 0 ++ drop scratchSize s | Refused why ↦ s ]
+
+-- In plain terms, what success does to a scratch: its first scratchSize numbers are 0, and the rest as it was lent.
+pub record Cleared (lent after : List ℕ) : Type 0 where
+  pub zeros : take scratchSize after ≡ replicate scratchSize 0
+  pub rest : drop scratchSize after ≡ drop scratchSize lent

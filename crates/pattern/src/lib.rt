@@ -18,7 +18,7 @@ ghost use Prim.Native.Nat.{_≤_};
 ghost use lib.ListN.{length};
 ghost use Rattle.intake.specs.Sizes.{scratchSize};
 ghost use Rattle.intake.specs.Outcomes.{Preparable};
-ghost use Rattle.pattern.specs.Prepared.{prepared, scratchAfter, unprepared};
+ghost use Rattle.pattern.specs.Prepared.{prepared, scratchAfter, unprepared, Cleared};
 
 // Document 01's card: the pattern and its tables. The entries past those defined are 0.
 #[repr(C)]
@@ -68,6 +68,7 @@ pub fn prepare(bytes: &[u8], scratch: &mut [u16]) -> Prepared
     ensures answer { λ r. ⌜ r ≡ prepared (now (bytes .entry)) (length (now (scratch .entry))) ⌝ }
     ensures scratched { λ r. ⌜ now (scratch .exit) ≡ scratchAfter (now (bytes .entry)) (now (scratch .entry)) ⌝ }
     ensures taken { λ r. ⌜ ((r .outcome ≡ Outcome.Ready) ↔ (Preparable (now (bytes .entry)) × (scratchSize ≤ length (now (scratch .entry))))) ⌝ }
+    ensures cleared { λ r. ⌜ (r .outcome ≡ Outcome.Ready → Cleared (now (scratch .entry)) (now (scratch .exit))) ⌝ }
 {
     let outcome = intake::outcome_of(bytes, scratch.len());
     match outcome {

@@ -13,7 +13,7 @@ ghost use Rattle.charge.specs.Charged.{charged};
 ghost use Rattle.intake.specs.Sizes.{scratchSize};
 ghost use Rattle.intake.specs.Outcomes.{Preparable};
 ghost use Rattle.pattern.specs.Letters.{wordOf, textOf};
-ghost use Rattle.pattern.specs.Prepared.{prepared, scratchAfter};
+ghost use Rattle.pattern.specs.Prepared.{prepared, scratchAfter, Cleared};
 ghost use Rattle.rules.specs.Colussi.{colussi};
 ghost use Rattle.rules.specs.Kmp.{kmp};
 ghost use Rattle.search.specs.Answer.{answerBy, listBy};
@@ -103,6 +103,7 @@ pub extern "C" fn poqewan_prepare(bytes: &[u8], scratch: &mut [u16]) -> Preparat
     ensures answer { λ r. ⌜ r ≡ carriedPreparation (prepared (now (bytes .entry)) (length (now (scratch .entry)))) ⌝ }
     ensures scratched { λ r. ⌜ now (scratch .exit) ≡ scratchAfter (now (bytes .entry)) (now (scratch .entry)) ⌝ }
     ensures taken { λ r. ⌜ ((r .refusal ≡ 0) ↔ (Preparable (now (bytes .entry)) × (scratchSize ≤ length (now (scratch .entry))))) ⌝ }
+    ensures cleared { λ r. ⌜ (r .refusal ≡ 0 → Cleared (now (scratch .entry)) (now (scratch .exit))) ⌝ }
 {
     let got = pattern::prepare(bytes, scratch);
     let pattern = got.pattern;

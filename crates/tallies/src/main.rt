@@ -8,8 +8,8 @@ use ones::PLACES;
 use ones::WORDS;
 use std::num::wrapping_add_u64;
 
-// How many places are asked of a set: 0 to 257, and two far past the last.
-const ASKED: usize = 260;
+// How many places are asked of a set: 0 to PLACES + 1, and two far past the last.
+const ASKED: usize = PLACES + 4;
 
 const FAR: usize = 512;
 

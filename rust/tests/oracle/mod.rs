@@ -6,6 +6,12 @@
 
 use poqewan::{Ending, Pattern, Refusal, Report};
 
+/// The longest pattern, as document 01 has it.
+pub const LONGEST_PATTERN: usize = 256;
+
+/// The least scratch, as document 02 (C-18) has it.
+pub const SCRATCH: usize = 514;
+
 /// The positions where the pattern occurs: all its bytes stand at b in the text.
 pub fn occurrences(pattern: &[u8], text: &[u8]) -> Vec<u32> {
     (0..text.len())
@@ -23,15 +29,25 @@ fn position(b: usize) -> u32 {
 pub fn preparation_refusal(pattern: &[u8], scratch_len: usize) -> Option<Refusal> {
     if pattern.is_empty() {
         Some(Refusal::NoPattern)
-    } else if pattern.len() > 256 {
+    } else if pattern.len() > LONGEST_PATTERN {
         Some(Refusal::LongPattern)
     } else if pattern.contains(&0) {
         Some(Refusal::ZeroInPattern)
-    } else if scratch_len < 771 {
+    } else if scratch_len < SCRATCH {
         Some(Refusal::ShortScratch)
     } else {
         None
     }
+}
+
+/// What a scratch holds after preparation: on success its first 514 numbers are 0 and the rest
+/// unchanged; after a refusal all are unchanged.
+pub fn scratch_after(pattern: &[u8], lent: &[u16]) -> Vec<u16> {
+    let mut scratch = lent.to_vec();
+    if preparation_refusal(pattern, lent.len()).is_none() {
+        scratch[..SCRATCH].fill(0);
+    }
+    scratch
 }
 
 /// The segments of a text, each with where it begins: byte 0 closes a seat's reflections.
@@ -168,10 +184,10 @@ impl Tables {
 pub const ZERO: Pattern = Pattern {
     len: 0,
     noholes: 0,
-    bytes: [0; 256],
-    order: [0; 256],
-    shift: [0; 257],
-    next: [0; 257],
+    bytes: [0; LONGEST_PATTERN],
+    order: [0; LONGEST_PATTERN],
+    shift: [0; LONGEST_PATTERN + 1],
+    next: [0; LONGEST_PATTERN + 1],
     marks: [0; 4],
 };
 

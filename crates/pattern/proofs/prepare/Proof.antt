@@ -1,10 +1,12 @@
 -- `prepare` meets its contract: it goes by the outcome of its tests, and after success the fill leaves zeros in the first scratchSize
 -- numbers of the scratch. Assumes nothing.
+use Prim.Native.Nat.{_≤_}
 use mathlib.Core.Path.{refl}
 use native.Mathlib.Omega.{arith}
-use lib.ListN.{length-take}
+use lib.ListN.{length, length-take}
 use borrow.Author.Needs.{needs}
-use Rattle.pattern.proofs.Answers.{room, sizes, success, refusal, taken, cleared, kept}
+use Rattle.intake.specs.Sizes.{scratchSize}
+use Rattle.pattern.proofs.Answers.{room, sizes, success, refusal, taken, zeroed, kept, cleared}
 use Rattle.pattern.proofs.prepare.Statement.{statement}
 use Rattle.pattern.proofs.prepare.Tie as tie
 
@@ -30,13 +32,10 @@ returns c =
     let told = built .before .before in
     let tested = told .before .before .outcome-of .ensures .0 in
     let ready = told .enum-told .given .1 in
-    let answer = success _ _ tested ready (built .build .ensures .0) in (
-      answer,
-      (
-        cleared _ _ tested (built .build .last .1 .0) ready (omega (arith, room _ _ tested ready)) (filled .fill .ensures) (built .build .ensures .1),
-        taken _ _ answer,
-      ),
-    )
+    let answer = success _ _ tested ready (built .build .ensures .0) in
+    let long : scratchSize ≤ length (built .build .last .1 .0) = omega (arith, room _ _ tested ready) in
+    let after = zeroed _ _ tested (built .build .last .1 .0) ready long (filled .fill .ensures) (built .build .ensures .1) in
+    (answer, (after, (taken _ _ answer, cleared _ _ answer after)))
 
 returns-2 : tie.Need-returns-2
 returns-2 c =
@@ -44,7 +43,8 @@ returns-2 c =
     let tested = outcome .before .before .outcome-of .ensures .0 in
     let told = outcome .outcome .given .1 in
     let answer = refusal _ _ tested told (c .refused .ensures) in
-    (answer, (kept _ _ tested told, taken _ _ answer))
+    let after = kept _ _ tested told in
+    (answer, (after, (taken _ _ answer, cleared _ _ answer after)))
 
 pub prepare-spec : {M : Type 1} → statement M
 prepare-spec =

@@ -19,9 +19,16 @@ returns : tie.Need-returns
 returns c =
     let P = c .before .before .before .before .prepare .ensures in
     let number = ready-is-0 (c .before .before .before .before .prepare .result .outcome) in
-    let taken = P .1 .1 in (
+    let taken = P .1 .1 .0 in
+    let cleared = P .1 .1 .1 in (
       rw (c .outcome-number .ensures) (ap carriedPreparation (P .0)),
-      (P .1 .0, rw (c .outcome-number .ensures) (λ e. taken .0 (number .0 e), λ h. number .1 (taken .1 h))),
+      (
+        P .1 .0,
+        (
+          rw (c .outcome-number .ensures) (λ e. taken .0 (number .0 e), λ h. number .1 (taken .1 h)),
+          rw (c .outcome-number .ensures) (λ e. cleared (number .0 e)),
+        ),
+      ),
     )
 
 pub poqewan-prepare-spec : {M : Type 1} → statement M
