@@ -40,7 +40,7 @@ fn preparation_refuses_in_order_and_leaves_the_scratch_as_promised() {
     }
 }
 
-/// Patterns of one byte and of the most, with tables of every kind.
+/// Patterns of one byte and of the most: of one letter, with a short period, and random.
 fn shortest_and_longest() -> [Vec<u8>; 4] {
     let longest = LONGEST_PATTERN;
     [
