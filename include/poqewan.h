@@ -58,9 +58,10 @@ typedef struct poqewan_pattern {
     uint64_t marks[4]; /* the noholes: place p at bit p mod 64 of word p div 64 */
 } poqewan_pattern;
 
-/* The number of a refusal, and then the pattern is all zero; or 0 and the pattern. */
+/* The number of a refusal, and then all else is 0; or 0, the cost of preparation and the pattern. */
 typedef struct poqewan_preparation {
     uint32_t refusal;
+    uint32_t compared; /* the comparisons of two pattern bytes in building hmax */
     poqewan_pattern pattern;
 } poqewan_preparation;
 
@@ -77,6 +78,10 @@ typedef struct poqewan_report {
  * Prepares a pattern for search. Refused, in this order: no byte (1), more than POQEWAN_LONGEST_PATTERN bytes (2), a byte 0
  * among them (10), a scratch of fewer than POQEWAN_SCRATCH numbers (3). After success the first POQEWAN_SCRATCH numbers of
  * the scratch are 0 and the rest unchanged; after a refusal it is unchanged.
+ *
+ * `compared` counts the comparisons of two pattern bytes that Colussi's fast method (1991, Algorithm 7) makes in
+ * building the table hmax. Its look at the closing sentinel is not counted. With m pattern bytes the number is 0 if
+ * m = 1, at most 2 * m - 3 if m >= 2, and so at most 2 * m - 2.
  *
  * A byte 0 closes a seat's reflections in a text, which may hold any byte. No pattern holds it, so no occurrence joins two
  * seats.

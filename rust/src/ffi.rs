@@ -3,10 +3,11 @@
 use crate::Pattern;
 use std::mem::{offset_of, size_of};
 
-/// The number of a refusal, and then the pattern is all zero; or 0 and the pattern.
+/// The number of a refusal, and then all else is 0; or 0, the cost of preparation and the pattern.
 #[repr(C)]
 pub struct Preparation {
     pub refusal: u32,
+    pub compared: u32,
     pub pattern: Pattern,
 }
 
@@ -72,6 +73,7 @@ const _: () = {
 
     assert!(size_of::<Preparation>() == 1600);
     assert!(offset_of!(Preparation, refusal) == 0);
+    assert!(offset_of!(Preparation, compared) == 4);
     assert!(offset_of!(Preparation, pattern) == 8);
 
     assert!(size_of::<Report>() == 32);

@@ -11,8 +11,10 @@
 //! let mut scratch = [0; SCRATCH];
 //! let mut positions = [0; 8];
 //!
-//! let pattern = prepare(b"aba", &mut scratch)?;
-//! let report = colussi(&pattern, b"ababa", u64::MAX, &mut positions)?;
+//! let preparation = prepare(b"aba", &mut scratch)?;
+//! assert_eq!(preparation.compared, 2);
+//!
+//! let report = colussi(&preparation.pattern, b"ababa", u64::MAX, &mut positions)?;
 //!
 //! assert_eq!(report.ending, Ending::Done);
 //! assert_eq!(positions[..report.written], [0, 2]);
@@ -60,6 +62,17 @@ pub struct Pattern {
     pub next: [u16; LONGEST_PATTERN + 1],
     /// The noholes: place p at bit p mod 64 of word p div 64.
     pub marks: [u64; 4],
+}
+
+/// What preparation gives.
+#[derive(Clone, Copy, Debug, PartialEq, Eq)]
+pub struct Preparation {
+    /// The comparisons of two pattern bytes that Colussi's fast method (1991, Algorithm 7) makes in
+    /// building the table hmax. Its look at the closing sentinel is not counted. With m pattern
+    /// bytes the number is 0 if m = 1, at most 2 * m - 3 if m >= 2, and so at most 2 * m - 2.
+    pub compared: u32,
+    /// The pattern, prepared for search.
+    pub pattern: Pattern,
 }
 
 /// Why a call was refused. Where more than one applies, the first in the function's order of tests
@@ -127,7 +140,7 @@ pub struct Report {
     pub written: usize,
 }
 
-/// Prepares a pattern for search.
+/// Prepares a pattern for search, and counts what that costs.
 ///
 /// A byte 0 closes a seat's reflections in a text, which may hold any byte. No pattern holds it, so
 /// no occurrence joins two seats.
@@ -139,7 +152,7 @@ pub struct Report {
 ///
 /// Refused, in this order: no byte (1), more than [`LONGEST_PATTERN`] bytes (2), a byte 0 among them
 /// (10), a scratch of fewer than [`SCRATCH`] numbers (3).
-pub fn prepare(bytes: &[u8], scratch: &mut [u16]) -> Result<Pattern, Refusal> {
+pub fn prepare(bytes: &[u8], scratch: &mut [u16]) -> Result<Preparation, Refusal> {
     // SAFETY: each pointer and its number of elements are those of a slice, and what is written is
     // borrowed mutably, so it overlaps nothing else.
     let answer = unsafe {
@@ -150,7 +163,11 @@ pub fn prepare(bytes: &[u8], scratch: &mut [u16]) -> Result<Pattern, Refusal> {
             scratch.len(),
         )
     };
-    accepted(answer.refusal).map(|()| answer.pattern)
+    accepted(answer.refusal)?;
+    Ok(Preparation {
+        compared: answer.compared,
+        pattern: answer.pattern,
+    })
 }
 
 /// Searches a text in Colussi's order, with at most `cap` comparisons, and fills the list from its

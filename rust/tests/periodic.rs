@@ -4,7 +4,7 @@
 mod common;
 mod oracle;
 
-use common::{changed, repeated, Random, Trial};
+use common::{changed, fibonacci, repeated, Random, Trial};
 
 /// Lengths around the powers of two, the Fibonacci numbers and the words of the marks.
 const LENGTHS: [usize; 24] = [
@@ -66,17 +66,6 @@ fn near_misses(bytes: &[u8], random: &mut Random) -> Vec<u8> {
         text.extend(copy);
     }
     text
-}
-
-/// The first `len` letters of the Fibonacci word: a and ab, and from there each the two before it.
-fn fibonacci(len: usize) -> Vec<u8> {
-    let (mut shorter, mut word) = (b"a".to_vec(), b"ab".to_vec());
-    while word.len() < len {
-        let longer = [&word[..], &shorter[..]].concat();
-        shorter = std::mem::replace(&mut word, longer);
-    }
-    word.truncate(len);
-    word
 }
 
 /// The first `len` letters of the Thue-Morse word: b where the place has an odd number of ones.

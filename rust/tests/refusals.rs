@@ -4,11 +4,8 @@ mod common;
 mod oracle;
 
 use common::{assert_refused, changed, prepared, repeated, words, Random, Trial};
-use oracle::{Tables, LONGEST_PATTERN, SCRATCH};
-use poqewan::{Pattern, Refusal};
-
-/// The least scratch before C-18.
-const FORMER_SCRATCH: usize = 771;
+use oracle::{Tables, FORMER_SCRATCH, LONGEST_PATTERN, SCRATCH};
+use poqewan::{Pattern, Preparation, Refusal};
 
 /// Prepares a pattern, and checks the answer and the scratch. Gives the refusal, if any.
 fn check_preparation(bytes: &[u8], scratch_len: usize) -> Option<Refusal> {
@@ -21,7 +18,13 @@ fn check_preparation(bytes: &[u8], scratch_len: usize) -> Option<Refusal> {
     let refusal = oracle::preparation_refusal(bytes, scratch_len);
     match refusal {
         Some(why) => assert_eq!(answer, Err(why), "{case}"),
-        None => assert_eq!(answer, Ok(Tables::of(bytes).pattern()), "{case}"),
+        None => {
+            let expected = Preparation {
+                compared: oracle::fast_method(bytes).0,
+                pattern: Tables::of(bytes).pattern(),
+            };
+            assert_eq!(answer, Ok(expected), "{case}");
+        }
     }
     assert_eq!(scratch, oracle::scratch_after(bytes, &lent), "{case}");
     refusal

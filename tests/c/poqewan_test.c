@@ -27,6 +27,7 @@ _Static_assert(offsetof(poqewan_pattern, next) == 1042, "next");
 _Static_assert(offsetof(poqewan_pattern, marks) == 1560, "marks");
 _Static_assert(sizeof(poqewan_preparation) == 1600, "poqewan_preparation");
 _Static_assert(offsetof(poqewan_preparation, refusal) == 0, "refusal");
+_Static_assert(offsetof(poqewan_preparation, compared) == 4, "compared");
 _Static_assert(offsetof(poqewan_preparation, pattern) == 8, "pattern");
 _Static_assert(sizeof(poqewan_report) == 32, "poqewan_report");
 _Static_assert(offsetof(poqewan_report, refusal) == 0, "refusal");
@@ -158,7 +159,7 @@ static bool is_zero(const poqewan_pattern *pattern)
 }
 
 /* Prepares a pattern and checks the refusal, or the scratch that success leaves. */
-static poqewan_pattern prepare(const void *bytes, size_t len, size_t scratch_len, uint32_t refusal)
+static poqewan_preparation prepare(const void *bytes, size_t len, size_t scratch_len, uint32_t refusal)
 {
     uint8_t *lent = lend_bytes(bytes, len);
     uint16_t *scratch = lend_scratch(scratch_len);
@@ -170,17 +171,18 @@ static poqewan_pattern prepare(const void *bytes, size_t len, size_t scratch_len
         CHECK(scratch_is(scratch, 0, POQEWAN_SCRATCH, 0));
         CHECK(scratch_is(scratch, POQEWAN_SCRATCH, scratch_len, UNTOUCHED));
     } else {
+        CHECK(p.compared == 0);
         CHECK(is_zero(&p.pattern));
         CHECK(scratch_is(scratch, 0, scratch_len, UNTOUCHED));
     }
     free(scratch);
     free(lent);
-    return p.pattern;
+    return p;
 }
 
 static poqewan_pattern prepared(const char *letters)
 {
-    return prepare(letters, strlen(letters), POQEWAN_SCRATCH, 0);
+    return prepare(letters, strlen(letters), POQEWAN_SCRATCH, 0).pattern;
 }
 
 /* Both searches must refuse with this number and leave the list as it is. */
@@ -259,6 +261,90 @@ static void test_worked_tables(void)
     CHECK(memcmp(pattern.order, aabaa_order, sizeof aabaa_order) == 0);
     CHECK(memcmp(pattern.shift, aabaa_shift, sizeof aabaa_shift) == 0);
     CHECK(memcmp(pattern.next, zero.next, sizeof zero.next) == 0);
+}
+
+/* No byte, so that a look at it is no comparison of two bytes. */
+#define SENTINEL 256
+
+static bool same(const int *w, size_t i, size_t j, uint32_t *compared)
+{
+    if (w[i] != SENTINEL)
+        ++*compared;
+    return w[i] == w[j];
+}
+
+/* Source document 003's Algorithm 7, line by line. Gives its comparisons of two pattern bytes. */
+static uint32_t compared_by_method(const uint8_t *bytes, size_t m)
+{
+    int w[POQEWAN_LONGEST_PATTERN + 1];
+    size_t hmax[POQEWAN_LONGEST_PATTERN + 1], k = 1, i = k;
+    uint32_t compared = 0;
+    for (size_t p = 0; p < m; p++)
+        w[p] = bytes[p];
+    w[m] = SENTINEL;
+    do {
+        while (same(w, i, i - k, &compared))
+            i++;
+        hmax[k] = i;
+        size_t q = k + 1;
+        while (hmax[q - k] + k < i) {
+            hmax[q] = hmax[q - k] + k;
+            q++;
+        }
+        k = q;
+        if (k == i + 1)
+            i = k;
+    } while (k <= m);
+    return compared;
+}
+
+/* Prepares a pattern and checks the cost: it is the method's, and 0 with one byte, at most 2 * m - 3 with more. */
+static uint32_t check_cost(const uint8_t *bytes, size_t m)
+{
+    uint32_t compared = prepare(bytes, m, POQEWAN_SCRATCH, 0).compared;
+    CHECK(compared == compared_by_method(bytes, m));
+    CHECK(compared <= (m == 1 ? 0 : 2 * m - 3));
+    return compared;
+}
+
+/* Worked by hand from source document 003's Algorithm 7. In ababc a copied entry saves a comparison; the last word is
+   source document 000's. */
+static const struct cost {
+    const char *pattern;
+    uint32_t compared;
+} costs[] = {
+    {"a", 0}, {"aa", 1}, {"ab", 1}, {"aba", 2}, {"ababc", 5}, {"aabaa", 5}, {"aabacaacaab", 14},
+};
+
+static void test_worked_costs(void)
+{
+    for (size_t i = 0; i < sizeof costs / sizeof *costs; i++)
+        CHECK(check_cost((const uint8_t *)costs[i].pattern, strlen(costs[i].pattern)) == costs[i].compared);
+}
+
+/* One letter costs m - 1; with another one at its end it costs the most that any pattern does. */
+static void test_costs_of_the_longest(void)
+{
+    uint8_t bytes[POQEWAN_LONGEST_PATTERN];
+    memset(bytes, 'a', sizeof bytes);
+    CHECK(check_cost(bytes, sizeof bytes) == 255);
+    bytes[sizeof bytes - 1] = 'b';
+    CHECK(check_cost(bytes, sizeof bytes) == 509);
+}
+
+/* Powers of random words, of every length in turn; every second round with a byte changed. */
+static void test_random_costs(size_t rounds)
+{
+    uint8_t bytes[POQEWAN_LONGEST_PATTERN];
+    for (size_t round = 0; round < rounds; round++) {
+        size_t m = 1 + round / 2 % POQEWAN_LONGEST_PATTERN, root = 1 + random_below(m);
+        random_letters(bytes, root, 1 + random_below(4));
+        for (size_t p = root; p < m; p++)
+            bytes[p] = bytes[p - root];
+        if (round % 2 == 1)
+            random_letters(bytes + random_below(m), 1, 4);
+        check_cost(bytes, m);
+    }
 }
 
 static void test_charge(void)
@@ -518,7 +604,7 @@ static void test_random_searches(size_t rounds)
         size_t letters = 1 + random_below(3);
         size_t m = round % 50 == 0 ? POQEWAN_LONGEST_PATTERN : 1 + random_below(6);
         random_letters(bytes, m, letters);
-        poqewan_pattern pattern = prepare(bytes, m, POQEWAN_SCRATCH, 0);
+        poqewan_pattern pattern = prepare(bytes, m, POQEWAN_SCRATCH, 0).pattern;
 
         size_t n = random_below(m + 60);
         uint8_t *text = lend(n);
@@ -582,6 +668,9 @@ int main(int argc, char **argv)
     bool quick = argc > 1 && strcmp(argv[1], "quick") == 0;
     test_worked_records();
     test_worked_tables();
+    test_worked_costs();
+    test_costs_of_the_longest();
+    test_random_costs(quick ? 512 : 10240);
     test_charge();
     test_preparation();
     test_zero_in_pattern();

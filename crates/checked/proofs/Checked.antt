@@ -6,29 +6,28 @@ use Rattle.words.proofs.Cases.{not-both}
 use Rattle.intake.specs.Sizes.{scratchSize}
 use Rattle.intake.specs.declared.Outcome.{Outcome}
 use Rattle.intake.specs.declared.Outcome.the-variants.{Ready, Refused}
-use Rattle.pattern.specs.Prepared.{prepared}
 use Rattle.checked.specs.Check.{samePattern, preparedAgain, isPrepared, IsPrepared}
 use Rattle.pattern.specs.Letters.{ownBytes}
 use Rattle.pattern.specs.declared.Pattern.{Pattern}
-use Rattle.pattern.specs.declared.Prepared.{Prepared}
+use Rattle.preparation.specs.Prepared.{prepared}
+use Rattle.preparation.specs.declared.Prepared.{Prepared}
 use Rattle.checked.proofs.Same.{same-pattern}
 
 -- An answer is ready, and its pattern is the same as p.
 abbrev matches : Pattern → Prepared → Bool
 matches p a = elim (a .outcome) [ Ready ↦ samePattern p (a .pattern) | Refused why ↦ false ]
 
-matches-iff : (p : Pattern) (a : Prepared) → (matches p a ≡ true) ↔ (a ≡ record { outcome = Ready; pattern = p })
-matches-iff p a = go (a .outcome) (a .pattern)
+matches-iff : (p : Pattern) (a : Prepared) → (matches p a ≡ true) ↔ ((a .outcome ≡ Ready) × (a .pattern ≡ p))
+matches-iff p a = go (a .outcome) refl
   where
-    go : (o : Outcome) (q : Pattern) → (matches p record { outcome = o; pattern = q } ≡ true)
-        ↔ (_≡_ {A = Prepared} (record { outcome = o; pattern = q }) (record { outcome = Ready; pattern = p }))
-    go Ready q = (
-      λ e. rw (same-pattern p q .0 e) refl,
-      λ e. same-pattern p q .1 (sym (ap (λ (b : Prepared). b .pattern) e)),
+    go : (o : Outcome) → a .outcome ≡ o → (matches p a ≡ true) ↔ ((a .outcome ≡ Ready) × (a .pattern ≡ p))
+    go Ready e = rw e (
+      λ same. (refl, sym (same-pattern p (a .pattern) .0 same)),
+      λ both. same-pattern p (a .pattern) .1 (sym (both .1)),
     )
-    go (Refused why) q = (
-      λ e. absurd (not-both false e refl),
-      λ e. let o : Refused why ≡ Ready = ap (λ (b : Prepared). b .outcome) e in cc,
+    go (Refused why) e = rw e (
+      λ same. absurd (not-both false same refl),
+      λ both. let o : Refused why ≡ Ready = both .0 in cc,
     )
 
 module _ (p : Pattern) where

@@ -1,26 +1,27 @@
 -- What a reader of a prepared pattern finds in its fields: the promise that a search builds on. Assumes nothing.
 use Prim.Native.Nat.{ℕ, suc, _≤_, _<_}
-use mathlib.Core.Path.{_≡_, refl, sym, ap, _∙_}
+use mathlib.Core.Path.{_≡_, sym, ap, _∙_}
 use mathlib.Core.List.{List}
 use native.Mathlib.Omega.{arith}
 use lib.ListN.{length, getD}
+use Rattle.words.specs.Numbers.{tabulate}
 use Rattle.words.specs.Tables.{noholes, order, place, shift, next}
+use Rattle.words.proofs.Tabulate.{length-tabulate}
 use Rattle.words.proofs.Ranks.{length-order}
 use Rattle.words.specs.Holds.{Lacks}
 use Rattle.intake.specs.Sizes.{longestPattern, scratchSize}
 use Rattle.intake.specs.Outcomes.{outcomeOf}
-use Rattle.intake.specs.declared.Outcome.{Outcome}
-use Rattle.intake.specs.declared.Outcome.the-variants.{Ready, Refused}
+use Rattle.intake.specs.declared.Outcome.the-variants.{Ready}
 use Rattle.intake.proofs.Outcomes.{ready-is}
 use Rattle.pattern.specs.Sizes.{ranks}
-use Rattle.pattern.specs.Lists.{tabulate, padded}
-use Rattle.pattern.specs.Prepared.{patternOf, unprepared}
+use Rattle.pattern.specs.Lists.{padded}
+use Rattle.pattern.specs.Built.{patternOf}
 use Rattle.checked.specs.Check.{preparedAgain, IsPrepared}
 use Rattle.pattern.specs.Letters.{ownBytes, wordOf}
 use Rattle.pattern.specs.declared.Pattern.{Pattern}
-use Rattle.pattern.specs.declared.Prepared.{Prepared}
-use Rattle.pattern.proofs.Lists.{length-tabulate, length-padded, padded-at, padded-tabulate-at}
-use Rattle.pattern.proofs.Answers.{refused-answer, ready-answer}
+use Rattle.pattern.proofs.Lists.{length-padded, padded-at, padded-tabulate-at}
+use Rattle.preparation.specs.declared.Prepared.{Prepared}
+use Rattle.preparation.proofs.Answers.{outcome-is, ready-answer}
 
 pub record Fields (p : Pattern) : Type 0 where
   pub some : 1 ≤ p .len
@@ -38,14 +39,10 @@ pub record Fields (p : Pattern) : Type 0 where
 
 -- A prepared pattern is the pattern of its own bytes, which were not refused.
 prepared-is : (p : Pattern) → IsPrepared p → (outcomeOf (ownBytes p) scratchSize ≡ Ready) × (p ≡ patternOf (ownBytes p))
-unfolding IsPrepared preparedAgain unprepared
-prepared-is p G = go (outcomeOf (ownBytes p) scratchSize) refl
-  where
-    go : (o : Outcome) → outcomeOf (ownBytes p) scratchSize ≡ o → (outcomeOf (ownBytes p) scratchSize ≡ Ready) × (p ≡ patternOf (ownBytes p))
-    go Ready e = (e, ap (λ (a : Prepared). a .pattern) (sym G ∙ ready-answer (ownBytes p) scratchSize e))
-    go (Refused why) e =
-        let o : Refused why ≡ Ready = ap (λ (a : Prepared). a .outcome) (sym (refused-answer (ownBytes p) scratchSize e) ∙ G) in
-        absurd (let z : _≡_ {A = ℕ} 0 1 = cc in omega arith)
+unfolding IsPrepared preparedAgain
+prepared-is p G =
+    let ready = sym (outcome-is (ownBytes p) scratchSize) ∙ G .0 in
+    (ready, sym (G .1) ∙ ap (λ (a : Prepared). a .pattern) (ready-answer (ownBytes p) scratchSize ready))
 
 -- A table of m + 1 entries.
 by-rank : (w : List ℕ) (f : ℕ → ℕ) {l : List ℕ} → length w ≤ longestPattern → l ≡ padded ranks (tabulate (suc (length w)) f)

@@ -6,10 +6,10 @@ use mathlib.Core.List.{List, [], _∷_}
 use lib.Dec.{eqb}
 use Rattle.intake.specs.Sizes.{scratchSize}
 use Rattle.intake.specs.declared.Outcome.the-variants.{Ready, Refused}
-use Rattle.pattern.specs.Prepared.{prepared}
 use Rattle.pattern.specs.Letters.{ownBytes}
 use Rattle.pattern.specs.declared.Pattern.{Pattern}
-use Rattle.pattern.specs.declared.Prepared.{Prepared}
+use Rattle.preparation.specs.Prepared.{prepared}
+use Rattle.preparation.specs.declared.Prepared.{Prepared}
 
 unfoldable pub sameList : List ℕ → List ℕ → Bool
 sameList [] [] = true
@@ -26,7 +26,7 @@ samePattern a b =
     && (sameList (a .shift) (b .shift) && (sameList (a .next) (b .next) && sameList (a .marks) (b .marks))))))
 
 -- What preparation answers to them, with a scratch that is long enough. (Of a length above 256 these are 256 bytes, and their pattern
--- differs from p in its length.)
+-- differs from p in its length.) What preparation costs is no part of a pattern, and the test does not ask for it.
 unfoldable pub preparedAgain : Pattern → Prepared
 unfolding prepared
 preparedAgain p = prepared (ownBytes p) scratchSize
@@ -38,4 +38,4 @@ isPrepared p = elim (preparedAgain p .outcome) [ Ready ↦ samePattern p (prepar
 
 -- In plain terms.
 unfoldable pub IsPrepared : Pattern → Type 0
-IsPrepared p = preparedAgain p ≡ record { outcome = Ready; pattern = p }
+IsPrepared p = (preparedAgain p .outcome ≡ Ready) × (preparedAgain p .pattern ≡ p)

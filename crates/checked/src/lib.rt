@@ -1,17 +1,17 @@
 // The test behind refusal 4: a pattern's own bytes are prepared again, and every field is compared.
 mod fields;
 
-use pattern::Outcome;
 use pattern::Pattern;
-use pattern::Prepared;
-use pattern::prepare_alone;
+use preparation::Outcome;
+use preparation::Prepared;
+use preparation::prepare_alone;
 ghost use mathlib.Core.Path.{_≡_};
 ghost use mathlib.Core.Bool.{true};
 ghost use mathlib.Core.Logic.{_↔_};
 ghost use Prim.Native.Nat.{min};
 ghost use lib.ListN.{take};
 ghost use Rattle.intake.specs.Sizes.{scratchSize};
-ghost use Rattle.pattern.specs.Prepared.{prepared};
+ghost use Rattle.preparation.specs.Prepared.{prepared};
 ghost use Rattle.checked.specs.Check.{isPrepared, IsPrepared};
 
 // The lesser of two numbers.

@@ -12,10 +12,11 @@ use Rattle.intake.specs.Sizes.{scratchSize}
 use Rattle.intake.specs.Outcomes.{Preparable}
 use Rattle.intake.proofs.Outcomes.{ready-of}
 use Rattle.pattern.specs.Letters.{ownBytes, wordOf}
-use Rattle.pattern.specs.Prepared.{patternOf, prepared}
-use Rattle.pattern.specs.declared.Prepared.{Prepared}
+use Rattle.pattern.specs.Built.{patternOf}
+use Rattle.preparation.specs.Prepared.{prepared}
+use Rattle.preparation.specs.declared.Prepared.{Prepared}
 use Rattle.refusal.specs.declared.Refusal.{Refusal}
-use Rattle.pattern.proofs.Answers.{ready-answer}
+use Rattle.preparation.proofs.Answers.{ready-answer}
 use Rattle.checked.proofs.Again.{own-bytes, prepared-again}
 use Rattle.checked.proofs.Checked.{is-prepared}
 use Rattle.pattern.proofs.Letters.{word-own, text-own}

@@ -4,7 +4,7 @@ mod text;
 
 pub use input::LONGEST_TEXT;
 use input::Parsed;
-use pattern::SCRATCH;
+use preparation::SCRATCH;
 use search::SearchAnswer;
 ghost use mathlib.Core.Path.{_≡_};
 ghost use Prim.Native.Nat.{_≤_};
@@ -36,7 +36,7 @@ fn searched(bytes: &[u8], text: &[u8], out: &mut [u8]) -> usize
     ensures { λ r. ⌜ Puts (now (out .entry)) (now (out .exit)) 0 (search-lines (colussi (now (bytes .entry)) (now (text .entry)) noCap listSize)) r ⌝ }
 {
     let mut scratch = [0u16; SCRATCH];
-    let prepared = pattern::prepare(bytes, &mut scratch);
+    let prepared = preparation::prepare(bytes, &mut scratch);
     let mut positions = [0u32; LIST];
     let answer = search::colussi(prepared.pattern, text, NO_CAP, &mut positions);
     match answer {

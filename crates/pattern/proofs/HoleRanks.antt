@@ -9,7 +9,7 @@ use native.Mathlib.Numerals.{add-one}
 use lib.Dec.{leb, ltb}
 use lib.ListN.{length, set}
 use borrow.Author.Tests.{le-leb, lt-leb, lt-ltb, le-ltb}
-use Rattle.words.specs.Numbers.{count}
+use Rattle.words.specs.Numbers.{count, tabulate}
 use Rattle.words.specs.Tables.{hmax, nohole, kmin, rmin, below, noholes, place, rank, shift, next}
 use Rattle.words.proofs.Cases.{less-or, true-or-false}
 use Rattle.words.proofs.Noholes.{hmax-is, kmin-nohole, kmin-hole, nohole-is, zero-hole}
@@ -19,7 +19,6 @@ use Rattle.words.proofs.Shifts.{shift-hole, next-hole, none-below-first}
 use Rattle.intake.specs.Sizes.{longestPattern}
 use Rattle.ones.specs.Marks.{marked}
 use Rattle.pattern.specs.Sizes.{ranks}
-use Rattle.pattern.specs.Lists.{tabulate}
 use Rattle.pattern.specs.Marks.{markWord}
 use Rattle.pattern.specs.Internal.Ranked.{Ranked, Leaves}
 use Rattle.pattern.proofs.Bits.{marked-below}

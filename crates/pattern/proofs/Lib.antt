@@ -1,12 +1,11 @@
 -- The laws behind the functions' proofs, a module an idea; a module uses those above it.
 pub mod Stores
-pub mod Hmaxes
 pub mod Kmins
 pub mod Lists
 pub mod Bits
 pub mod Ranked
 pub mod NoholeRanks
 pub mod HoleRanks
-pub mod Answers
+pub mod Building
 pub mod Letters
 pub mod Examples

@@ -1,19 +1,16 @@
--- Lists that are filled, from the front or in any order; a list by its entries; and what stands at an index. Assumes nothing.
-use Prim.Native.Nat.{ℕ, zero, suc, _+_, _-_, _≤_, _<_, min}
-use mathlib.Core.Path.{_≡_, refl, sym, ap, _∙_}
+-- Lists that are filled, from the front or in any order; and what stands at an index. Assumes nothing.
+use Prim.Native.Nat.{ℕ, suc, _+_, _-_, _≤_, _<_, min}
+use mathlib.Core.Path.{_≡_, refl, sym, _∙_}
 use mathlib.Core.Logic.{⊎-elim}
 use mathlib.Core.List.{List, [], _∷_, _++_, append-assoc}
 use native.Mathlib.Omega.{arith}
 use native.Mathlib.Numerals.{add-one}
 use lib.ListN.{length, getD, take, set, replicate, length-append, length-replicate, getD-replicate, List·getD-append}
-use lib.Seq.{set-append-seam, take-suc, take-all, take-length, getD-append-seam, getD-append-add, ext-getD}
+use lib.Seq.{set-append-seam, take-all, take-length, getD-append-add, ext-getD}
+use Rattle.words.specs.Numbers.{tabulate}
 use Rattle.words.proofs.Cases.{less-or}
-use Rattle.pattern.specs.Lists.{tabulate, padded}
-
-pub length-tabulate : (n : ℕ) (f : ℕ → ℕ) → length (tabulate n f) ≡ n
-unfolding tabulate
-length-tabulate zero f = refl
-length-tabulate (suc n) f = length-append (tabulate n f) (f n ∷ []) ∙ omega (arith, length-tabulate n f)
+use Rattle.words.proofs.Tabulate.{length-tabulate, tabulate-at}
+use Rattle.pattern.specs.Lists.{padded}
 
 -- Of a number past the end, all of the list is taken.
 pub take-least : (n : ℕ) (l : List ℕ) → take (min n (length l)) l ≡ take n l
@@ -45,16 +42,6 @@ next-stored n f i j v e s h q =
     let k : length (tabulate i f) ≡ i = length-tabulate i f in
     rw (e, s, add-one i, q) (rw k at (store-padded n (tabulate i f) (f i) (rw k h)))
 
--- ---- By its entries
-
-entries-take : (n : ℕ) (l : List ℕ) → n ≤ length l → tabulate n (λ i. getD l i 0) ≡ take n l
-unfolding tabulate
-entries-take zero l h = refl
-entries-take (suc n) l h = rw (entries-take n l (omega arith)) (sym (take-suc l n 0 h))
-
-pub entries-all : (l : List ℕ) → tabulate (length l) (λ i. getD l i 0) ≡ l
-entries-all l = entries-take (length l) l (omega arith) ∙ take-length l
-
 -- ---- What stands at an index
 
 pub length-padded : (n : ℕ) (l : List ℕ) → length l ≤ n → length (padded n l) ≡ n
@@ -64,17 +51,6 @@ length-padded n l h = length-append l (replicate (n - length l) 0) ∙ omega (ar
 pub padded-at : (n : ℕ) (l : List ℕ) (i : ℕ) → i < length l → getD (padded n l) i 0 ≡ getD l i 0
 unfolding padded
 padded-at n l i h = List·getD-append l (replicate (n - length l) 0) 0 i h
-
-pub tabulate-at : (n : ℕ) (f : ℕ → ℕ) (i : ℕ) → i < n → getD (tabulate n f) i 0 ≡ f i
-unfolding tabulate
-tabulate-at zero f i l = absurd (omega arith)
-tabulate-at (suc n) f i l = ⊎-elim
-    (λ (a : i < n). List·getD-append (tabulate n f) (f n ∷ []) 0 i (omega (arith, length-tabulate n f)) ∙ tabulate-at n f i a)
-    (λ (a : n ≤ i).
-    let z : i ≡ length (tabulate n f) = omega (arith, length-tabulate n f) in
-    let y : i ≡ n = omega arith in
-    rw z (getD-append-seam (tabulate n f) (f n) [] 0) ∙ ap f (sym y))
-    (less-or i n)
 
 pub padded-tabulate-at : (k n : ℕ) (f : ℕ → ℕ) (i : ℕ) → i < n → getD (padded k (tabulate n f)) i 0 ≡ f i
 padded-tabulate-at k n f i l = padded-at k (tabulate n f) i (omega (arith, length-tabulate n f)) ∙ tabulate-at n f i l

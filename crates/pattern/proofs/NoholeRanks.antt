@@ -10,17 +10,17 @@ use lib.Dec.{leb, ltb}
 use lib.ListN.{length, getD, set, replicate, length-set, length-replicate, getD-replicate}
 use lib.Seq.{getD-set-same, getD-set-other}
 use borrow.Author.Tests.{le-leb, lt-leb, lt-ltb, le-ltb}
+use Rattle.words.specs.Numbers.{tabulate}
 use Rattle.words.specs.Tables.{hmax, nohole, kmin, below, noholes, place, rank, shift, next}
 use Rattle.words.proofs.Cases.{less-or}
 use Rattle.words.proofs.Noholes.{nohole-inside, kmin-nohole, kmin-hole, past-hole, nohole-is}
 use Rattle.words.proofs.Ranks.{below-le, below-nohole, below-hole, below-same, rank-nohole, nohole-early, place-rank, nohole-rank}
 use Rattle.words.proofs.Shifts.{shift-nohole, next-nohole, noholes-le, none-below-first}
 use Rattle.intake.specs.Sizes.{longestPattern}
+use Rattle.hmax.proofs.Stores.{after-store}
 use Rattle.pattern.specs.Sizes.{ranks}
-use Rattle.pattern.specs.Lists.{tabulate}
 use Rattle.pattern.specs.Marks.{bits, markWord}
 use Rattle.pattern.specs.Internal.Ranked.{OrderTo, ShiftTo, NextTo, Among, ListsNoholes, ListsWord, Askable, asked, Asks}
-use Rattle.pattern.proofs.Stores.{after-store}
 use Rattle.pattern.proofs.Kmins.{nohole-test}
 use Rattle.pattern.proofs.Bits.{bits-same, bit-more, bit-room, marked-below}
 use Rattle.pattern.proofs.Ranked.{kept-in, more-in}

@@ -2,6 +2,6 @@
 pub mod Sizes
 pub mod Lists
 pub mod Marks
-pub mod Prepared
+pub mod Built
 pub mod Letters
 pub mod Internal

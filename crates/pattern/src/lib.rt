@@ -1,24 +1,18 @@
-// A pattern prepared for search: document 01's card, and its preparation.
-mod build;
+// A pattern and its tables, which document 01 calls a card; and how it is built.
 mod entries;
-mod hmax;
 mod holes;
 mod kmin;
 mod noholes;
 mod sizes;
+mod whole;
 
+pub use entries::fill;
 pub use intake::LONGEST_PATTERN;
-pub use intake::Outcome;
 pub use intake::SCRATCH;
-pub use refusal::Refusal;
 pub use sizes::RANKS;
 ghost use mathlib.Core.Path.{_≡_};
-ghost use mathlib.Core.Logic.{_↔_};
-ghost use Prim.Native.Nat.{_≤_};
 ghost use lib.ListN.{length};
-ghost use Rattle.intake.specs.Sizes.{scratchSize};
-ghost use Rattle.intake.specs.Outcomes.{Preparable};
-ghost use Rattle.pattern.specs.Prepared.{prepared, scratchAfter, unprepared, Cleared};
+ghost use Rattle.pattern.specs.Built.{zeroPattern, unbuilt, builtFrom, scratchWith};
 
 // Document 01's card: the pattern and its tables. The entries past those defined are 0.
 #[repr(C)]
@@ -38,16 +32,17 @@ pub struct Pattern {
     pub marks: [u64; 4],
 }
 
-// The answer of preparation: the pattern beside a refusal is all zero.
-pub struct Prepared {
-    pub outcome: Outcome,
+// A pattern, and how many pairs of its letters were compared to build hmax. The pattern is first: so it lies as searches read it fastest.
+pub struct Built {
     pub pattern: Pattern,
+    pub compared: usize,
 }
 
-fn refused(why: Refusal) -> Prepared
-    ensures { λ r. ⌜ r ≡ unprepared why ⌝ }
+// The value that stands where there is no pattern.
+pub fn zero_pattern() -> Pattern
+    ensures answer { λ r. ⌜ r ≡ zeroPattern ⌝ }
 {
-    let pattern = Pattern {
+    Pattern {
         len: 0,
         noholes: 0,
         bytes: [0u8; LONGEST_PATTERN],
@@ -55,43 +50,33 @@ fn refused(why: Refusal) -> Prepared
         shift: [0u16; RANKS],
         next: [0u16; RANKS],
         marks: [0u64; 4],
-    };
-    Prepared {
-        outcome: Outcome::Refused(why),
-        pattern,
     }
 }
 
-// Prepares a pattern for search. Refused, in this order: no byte (1), more than LONGEST_PATTERN bytes (2), a byte 0 among them (10), a scratch
-// of fewer than SCRATCH numbers (3). On success the first SCRATCH numbers are 0 and the rest unchanged; on a refusal all are unchanged.
-pub fn prepare(bytes: &[u8], scratch: &mut [u16]) -> Prepared
-    ensures answer { λ r. ⌜ r ≡ prepared (now (bytes .entry)) (length (now (scratch .entry))) ⌝ }
-    ensures scratched { λ r. ⌜ now (scratch .exit) ≡ scratchAfter (now (bytes .entry)) (now (scratch .entry)) ⌝ }
-    ensures taken { λ r. ⌜ ((r .outcome ≡ Outcome.Ready) ↔ (Preparable (now (bytes .entry)) × (scratchSize ≤ length (now (scratch .entry))))) ⌝ }
-    ensures cleared { λ r. ⌜ (r .outcome ≡ Outcome.Ready → Cleared (now (scratch .entry)) (now (scratch .exit))) ⌝ }
+fn not_built() -> Built
+    ensures { λ r. ⌜ r ≡ unbuilt ⌝ }
 {
-    let outcome = intake::outcome_of(bytes, scratch.len());
-    match outcome {
-        Outcome::Ready => {
-            let pattern = build::build(bytes, scratch);
-            entries::fill(&mut scratch[..SCRATCH], 0);
-            Prepared { outcome, pattern }
-        }
-        Outcome::Refused(why) => refused(why),
+    Built {
+        pattern: zero_pattern(),
+        compared: 0,
     }
 }
 
-// The same with a scratch of its own, which nobody needs cleared.
-pub fn prepare_alone(bytes: &[u8]) -> Prepared
-    ensures answer { λ r. ⌜ r ≡ prepared (now (bytes .entry)) scratchSize ⌝ }
+// Builds the pattern of 1 to LONGEST_PATTERN bytes in a scratch of at least SCRATCH numbers. The scratch then holds two of its tables, and is
+// unchanged elsewhere. With other lengths no pattern is built, and the scratch is unchanged.
+pub fn build(bytes: &[u8], scratch: &mut [u16]) -> Built
+    ensures answer { λ r. ⌜ r ≡ builtFrom (now (bytes .entry)) (length (now (scratch .entry))) ⌝ }
+    ensures scratched { λ r. ⌜ now (scratch .exit) ≡ scratchWith (now (bytes .entry)) (now (scratch .entry)) ⌝ }
 {
-    let mut scratch = [0u16; SCRATCH];
-    let outcome = intake::outcome_of(bytes, SCRATCH);
-    match outcome {
-        Outcome::Ready => {
-            let pattern = build::build(bytes, &mut scratch);
-            Prepared { outcome, pattern }
-        }
-        Outcome::Refused(why) => refused(why),
+    let m = bytes.len();
+    if m < 1 {
+        return not_built();
     }
+    if LONGEST_PATTERN < m {
+        return not_built();
+    }
+    if scratch.len() < SCRATCH {
+        return not_built();
+    }
+    whole::whole(bytes, scratch)
 }

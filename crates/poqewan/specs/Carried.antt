@@ -2,7 +2,7 @@
 use Prim.Native.Nat.{ℕ, zero, suc}
 use Rattle.intake.specs.declared.Outcome.{Outcome}
 use Rattle.intake.specs.declared.Outcome.the-variants.{Ready, Refused}
-use Rattle.pattern.specs.declared.Prepared.{Prepared}
+use Rattle.preparation.specs.declared.Prepared.{Prepared}
 use Rattle.refusal.specs.Numbers.{numberOf}
 use Rattle.rules.specs.declared.Ending.{Ending}
 use Rattle.rules.specs.declared.Ending.the-variants.{Done, Spent, Full}
@@ -20,7 +20,7 @@ outcomeNumber (Refused why) = numberOf why
 
 -- The answer of preparation.
 abbrev pub carriedPreparation : Prepared → Preparation
-carriedPreparation p = record { refusal = outcomeNumber (p .outcome); pattern = p .pattern }
+carriedPreparation p = record { refusal = outcomeNumber (p .outcome); compared = p .compared; pattern = p .pattern }
 
 abbrev pub endingNumber : Ending → ℕ
 endingNumber Done = 0

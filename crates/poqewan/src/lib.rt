@@ -1,7 +1,7 @@
 // What C and Rust may call: the proved functions over numbers, slices and structs of a fixed layout. No function has a precondition, so
 // nothing is asked of a caller but what C asks of pointers.
-use pattern::Outcome;
 use pattern::Pattern;
+use preparation::Outcome;
 use rules::Ending;
 use rules::Report;
 use search::SearchAnswer;
@@ -12,18 +12,20 @@ ghost use lib.ListN.{length};
 ghost use Rattle.charge.specs.Charged.{charged};
 ghost use Rattle.intake.specs.Sizes.{scratchSize};
 ghost use Rattle.intake.specs.Outcomes.{Preparable};
+ghost use Rattle.hmax.specs.FastMethod.{FewCompared};
 ghost use Rattle.pattern.specs.Letters.{wordOf, textOf};
-ghost use Rattle.pattern.specs.Prepared.{prepared, scratchAfter, Cleared};
+ghost use Rattle.preparation.specs.Prepared.{prepared, scratchAfter, Cleared};
 ghost use Rattle.rules.specs.Colussi.{colussi};
 ghost use Rattle.rules.specs.Kmp.{kmp};
 ghost use Rattle.search.specs.Answer.{answerBy, listBy};
 ghost use Rattle.search.specs.Promise.{Located, UnderCeiling, UnderKmpCeiling, AsColussi, NoZeroCovered};
 ghost use Rattle.poqewan.specs.Carried.{outcomeNumber, carriedPreparation, endingNumber, endingWindow, carriedReport, carried, reportIn};
 
-// The number of a refusal, or 0, and the pattern, which is all zero beside a refusal.
+// The number of a refusal, and then all else is 0; or 0, how many pairs of the pattern's letters were compared to build hmax, and the pattern.
 #[repr(C)]
 pub struct Preparation {
     pub refusal: u32,
+    pub compared: u32,
     pub pattern: Pattern,
 }
 
@@ -104,12 +106,18 @@ pub extern "C" fn poqewan_prepare(bytes: &[u8], scratch: &mut [u16]) -> Preparat
     ensures scratched { λ r. ⌜ now (scratch .exit) ≡ scratchAfter (now (bytes .entry)) (now (scratch .entry)) ⌝ }
     ensures taken { λ r. ⌜ ((r .refusal ≡ 0) ↔ (Preparable (now (bytes .entry)) × (scratchSize ≤ length (now (scratch .entry))))) ⌝ }
     ensures cleared { λ r. ⌜ (r .refusal ≡ 0 → Cleared (now (scratch .entry)) (now (scratch .exit))) ⌝ }
+    ensures few { λ r. ⌜ FewCompared (length (now (bytes .entry))) (r .compared) ⌝ }
 {
-    let got = pattern::prepare(bytes, scratch);
+    let got = preparation::prepare(bytes, scratch);
     let pattern = got.pattern;
     let outcome = got.outcome;
+    let compared = got.compared as u32;
     let refusal = outcome_number(outcome);
-    Preparation { refusal, pattern }
+    Preparation {
+        refusal,
+        compared,
+        pattern,
+    }
 }
 
 // Searches a text in Colussi's order, with at most `cap` comparisons, and fills the list from its start with the positions where the pattern

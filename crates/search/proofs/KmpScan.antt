@@ -14,7 +14,7 @@ use Rattle.words.proofs.Noholes.{zero-hole}
 use Rattle.words.proofs.Ranks.{NoholeRank, nohole-rank, place-rank, nohole-early}
 use Rattle.words.proofs.Shifts.{shift-nohole, shift-last}
 use Rattle.pattern.specs.Sizes.{ranks}
-use Rattle.pattern.proofs.Stores.{after-store}
+use Rattle.hmax.proofs.Stores.{after-store}
 use Rattle.rules.specs.Rules.{edge-after}
 use Rattle.rules.specs.Kmp.{kmp-shift, kmp-plan, kmp}
 use Rattle.rules.specs.Internal.Passing.{Due}

@@ -11,7 +11,7 @@ use judge::UNWRITTEN;
 use libc::STDOUT_FILENO;
 use pattern::LONGEST_PATTERN;
 use pattern::Pattern;
-use pattern::SCRATCH;
+use preparation::SCRATCH;
 use search::Ending;
 use search::SearchAnswer;
 use std::num::wrapping_add_u64;
@@ -59,7 +59,7 @@ impl Tally {
 // The pattern beside a refusal is all zero, and the searches refuse it.
 fn prepared(bytes: &[u8]) -> Pattern {
     let mut scratch = [0u16; SCRATCH];
-    let answer = pattern::prepare(bytes, &mut scratch);
+    let answer = preparation::prepare(bytes, &mut scratch);
     answer.pattern
 }
 

@@ -2,6 +2,7 @@
 pub mod Cases
 pub mod Numbers
 pub mod Listing
+pub mod Tabulate
 pub mod Holding
 pub mod Periods
 pub mod Noholes

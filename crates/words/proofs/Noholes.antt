@@ -11,7 +11,7 @@ use borrow.Author.Tests.{ltb-true, lt-ltb, eqb-true, eqb-false, eq-eqb, not-true
 use Rattle.words.specs.Numbers.{count}
 use Rattle.words.specs.Tables.{letter, period, hmax, nohole, kmin, rmin, below}
 use Rattle.words.proofs.Cases.{less-or, true-or-false, both-true, not-both}
-use Rattle.words.proofs.Numbers.{First, first-is, some-of, some-is, every-of, every-is, count-split, count-mono, count-either, pigeonholes}
+use Rattle.words.proofs.Numbers.{First, first-is, first-unique, some-of, some-is, every-of, every-is, count-split, count-mono, count-either, pigeonholes}
 use Rattle.words.proofs.Periods.{Periodic, MaxPP, early-break, longest-up, longest-down, longest-unique}
 
 module _ (w : List ℕ) where
@@ -56,6 +56,18 @@ module _ (w : List ℕ) where
 
       per : Periodic (letter w) k (hmax w k)
       per x y e l = eqb-true _ _ (not-false _ (F .passed y (omega arith) l)) ∙ ap (letter w) (omega arith)
+
+  -- No letter differs from itself: at 0 it is m.
+  pub hmax-zero : hmax w 0 ≡ length w
+  unfolding hmax
+  hmax-zero =
+      let differs : ℕ → Bool = λ p. not (eqb (letter w p) (letter w (p - 0))) in
+      first-unique 0 (length w) differs (hmax w 0) (length w) (first-is 0 (length w) differs (omega arith)) record {
+        from = omega arith;
+        upto = omega arith;
+        passed = λ i a l. ap not (eq-eqb _ _ (ap (letter w) (omega arith)));
+        found = λ l. absurd (omega arith);
+      }
 
   pub hmax-of : (k h : ℕ) → h < length w → MaxPP (letter w) k h → hmax w k ≡ h
   hmax-of k h l M =

@@ -1,4 +1,4 @@
--- Numbers that pass a test: the first, whether some or all do, how many do, and which.
+-- Numbers that pass a test: the first, whether some or all do, how many do, and which. And the values of a function as a list.
 use Prim.Native.Nat.{ℕ, zero, suc, _+_, _-_}
 use mathlib.Core.Bool.{Bool, true, false, _&&_, cond}
 use mathlib.Core.List.{List, [], _∷_, _++_}
@@ -38,3 +38,8 @@ ascending (suc n) q = elim (q n) [ true ↦ ascending n q ++ (n ∷ []) | false 
 unfoldable pub descending : ℕ → (ℕ → Bool) → List ℕ
 descending zero q = []
 descending (suc n) q = elim (q n) [ true ↦ n ∷ descending n q | false ↦ descending n q ]
+
+-- f 0, f 1, .., f (n - 1).
+unfoldable pub tabulate : ℕ → (ℕ → ℕ) → List ℕ
+tabulate zero f = []
+tabulate (suc n) f = tabulate n f ++ (f n ∷ [])

@@ -3,7 +3,7 @@
 #![allow(dead_code)] // Each test file uses a part of it.
 
 use crate::oracle::{self, Tables};
-use poqewan::{Ending, Pattern, Refusal, Report, SCRATCH};
+use poqewan::{Ending, Pattern, Preparation, Refusal, Report, SCRATCH};
 
 /// What lists hold before a search. No text is long enough to have such a position.
 pub const UNWRITTEN: u32 = 0xA5A5_A5A5;
@@ -186,10 +186,15 @@ fn case(method: Method, bytes: &[u8], text: &[u8], cap: u64, list_len: usize) ->
     )
 }
 
-/// Prepares a pattern that preparation must accept.
-pub fn prepared(bytes: &[u8]) -> Pattern {
+/// What preparation gives for a pattern that it must accept.
+pub fn preparation(bytes: &[u8]) -> Preparation {
     poqewan::prepare(bytes, &mut [0xFFFF; SCRATCH])
         .expect("1 to 256 bytes, none 0, and enough scratch")
+}
+
+/// Prepares a pattern that preparation must accept.
+pub fn prepared(bytes: &[u8]) -> Pattern {
+    preparation(bytes).pattern
 }
 
 /// Both searches must refuse so and leave the list as it is.
@@ -225,6 +230,17 @@ pub fn repeated(word: &[u8], len: usize) -> Vec<u8> {
 pub fn changed(word: &[u8], place: usize, byte: u8) -> Vec<u8> {
     let mut word = word.to_vec();
     word[place] = byte;
+    word
+}
+
+/// The first `len` letters of the Fibonacci word: a and ab, and from there each the two before it.
+pub fn fibonacci(len: usize) -> Vec<u8> {
+    let (mut shorter, mut word) = (b"a".to_vec(), b"ab".to_vec());
+    while word.len() < len {
+        let longer = [&word[..], &shorter[..]].concat();
+        shorter = std::mem::replace(&mut word, longer);
+    }
+    word.truncate(len);
     word
 }
 

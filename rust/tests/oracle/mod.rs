@@ -12,6 +12,9 @@ pub const LONGEST_PATTERN: usize = 256;
 /// The least scratch, as document 02 (C-18) has it.
 pub const SCRATCH: usize = 514;
 
+/// The least scratch before C-18.
+pub const FORMER_SCRATCH: usize = 771;
+
 /// The positions where the pattern occurs: all its bytes stand at b in the text.
 pub fn occurrences(pattern: &[u8], text: &[u8]) -> Vec<u32> {
     (0..text.len())
@@ -74,10 +77,49 @@ fn is_period(pattern: &[u8], k: usize) -> bool {
 }
 
 /// hmax(k): the first place p, from k up, where byte p differs from byte p - k; m if there is none.
-fn hmax(pattern: &[u8], k: usize) -> usize {
+pub fn hmax(pattern: &[u8], k: usize) -> usize {
     (k..pattern.len())
         .find(|&p| pattern[p] != pattern[p - k])
         .unwrap_or(pattern.len())
+}
+
+/// Request C-23: the comparisons of two pattern bytes that source document 003's fast method makes,
+/// and the table that it leaves, with hmax(k) at k. This is its Algorithm 7, line by line.
+pub fn fast_method(pattern: &[u8]) -> (u32, Vec<usize>) {
+    let m = pattern.len();
+    // The sentinel is no byte, so a look at it is no comparison of two bytes.
+    let w: Vec<Option<u8>> = pattern.iter().copied().map(Some).chain([None]).collect();
+    let mut compared = 0;
+    let mut equal = |i: usize, j: usize| {
+        if w[i].is_some() && w[j].is_some() {
+            compared += 1;
+        }
+        w[i] == w[j]
+    };
+
+    let mut hmax = vec![0; m + 1];
+    let mut k = 1;
+    let mut i = k;
+    // repeat ... until k > m.
+    loop {
+        while equal(i, i - k) {
+            i += 1;
+        }
+        hmax[k] = i;
+        let mut q = k + 1;
+        while hmax[q - k] + k < i {
+            hmax[q] = hmax[q - k] + k;
+            q += 1;
+        }
+        k = q;
+        if k == i + 1 {
+            i = k;
+        }
+        if k > m {
+            break;
+        }
+    }
+    (compared, hmax)
 }
 
 /// A pattern's tables, each computed once by its definition.

@@ -13,7 +13,7 @@ returns c =
     let start = c .before .before .before .before .before in
     let w = start .args .bytes .now in
     let p = start .args .p in
-    let entry = start .pre .1 .0 .hmaxes p (omega arith) (omega arith) in
+    let entry = start .pre .1 .0 .hmaxes p (omega arith) in
     leaves-no-period w p (omega arith) (omega arith) (omega arith) (start .pre .1 .1 .1 .2)
 
 returns-2 : tie.Need-returns-2
@@ -23,8 +23,8 @@ returns-2 c =
     let p = start .args .p in
     let sizes = start .pre .0 in
     let tables = start .pre .1 .0 in
-    let entry = tables .hmaxes p (omega arith) (omega arith) in
-    let first = c .before .wide2 .ensures .0 ∙ tables .hmaxes 1 (omega arith) (omega arith) in
+    let entry = tables .hmaxes p (omega arith) in
+    let first = c .before .wide2 .ensures .0 ∙ tables .hmaxes 1 (omega arith) in
     leaves-period w p (omega arith) (omega arith) _ (omega arith)
     (c .below-from .ensures ∙ below-counted w _ (length w - p) (sizes .some) first (start .pre .1 .1 .0 .words) (omega arith))
 

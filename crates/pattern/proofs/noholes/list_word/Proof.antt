@@ -55,7 +55,7 @@ loop-holds : tie.Need-loop-holds Inv-loop μ-loop
 loop-holds c =
     let start = at-start c in
     begins (start .args .bytes .now) (start .args .from) _ _ _ (start .pre .0 .some) (omega arith) (c .within .ensures)
-    (at-first c .wide .ensures .0 ∙ start .pre .1 .0 .hmaxes 1 (omega arith) (omega arith)) (start .pre .1 .1 .1)
+    (at-first c .wide .ensures .0 ∙ start .pre .1 .0 .hmaxes 1 (omega arith)) (start .pre .1 .1 .1)
 
 -- The place is the pattern's and the word's, the rank that is free is the pattern's, and no more ranks are listed.
 under : (c : tie.In-loop Inv-loop μ-loop) →
@@ -103,7 +103,7 @@ loop-again c =
       upto = omega arith;
       lists = word-place w (start .args .from) (at .loop .p) (at .loop .word) (at .loop .i) (at .loop .t) _ _ (U .1) (U .2) (U .0) (read (c .before .before))
           (c .before .one-if .ensures .0) (at .loop .inv .lists) _ _ (start .pre .0 .short)
-          (at-first within .wide .ensures .0 ∙ start .pre .1 .0 .hmaxes 1 (omega arith) (omega arith)) (c .one-if2 .ensures .0);
+          (at-first within .wide .ensures .0 ∙ start .pre .1 .0 .hmaxes 1 (omega arith)) (c .one-if2 .ensures .0);
     }
 
 returns : tie.Need-returns Inv-loop μ-loop

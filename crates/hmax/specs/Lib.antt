@@ -1,0 +1,4 @@
+-- What a reader must believe; Internal holds what only the functions within the crate promise each other.
+pub mod FastMethod
+pub mod Table
+pub mod Internal

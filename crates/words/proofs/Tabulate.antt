@@ -1,0 +1,33 @@
+-- A function's values as a list: what stands at each index, and a list by its entries. Assumes nothing.
+use Prim.Native.Nat.{ℕ, zero, suc, _≤_, _<_}
+use mathlib.Core.Path.{_≡_, refl, sym, ap, _∙_}
+use mathlib.Core.Logic.{⊎-elim}
+use mathlib.Core.List.{List, [], _∷_}
+use native.Mathlib.Omega.{arith}
+use lib.ListN.{length, getD, length-append, List·getD-append}
+use lib.Seq.{getD-append-seam, ext-getD}
+use Rattle.words.specs.Numbers.{tabulate}
+use Rattle.words.proofs.Cases.{less-or}
+
+pub length-tabulate : (n : ℕ) (f : ℕ → ℕ) → length (tabulate n f) ≡ n
+unfolding tabulate
+length-tabulate zero f = refl
+length-tabulate (suc n) f = length-append (tabulate n f) (f n ∷ []) ∙ omega (arith, length-tabulate n f)
+
+pub tabulate-at : (n : ℕ) (f : ℕ → ℕ) (i : ℕ) → i < n → getD (tabulate n f) i 0 ≡ f i
+unfolding tabulate
+tabulate-at zero f i l = absurd (omega arith)
+tabulate-at (suc n) f i l = ⊎-elim
+    (λ (a : i < n). List·getD-append (tabulate n f) (f n ∷ []) 0 i (omega (arith, length-tabulate n f)) ∙ tabulate-at n f i a)
+    (λ (a : n ≤ i).
+    let z : i ≡ length (tabulate n f) = omega (arith, length-tabulate n f) in
+    let y : i ≡ n = omega arith in
+    rw z (getD-append-seam (tabulate n f) (f n) [] 0) ∙ ap f (sym y))
+    (less-or i n)
+
+pub by-entries : (n : ℕ) (f : ℕ → ℕ) (l : List ℕ) → length l ≡ n → ((i : ℕ) → i < n → getD l i 0 ≡ f i) → l ≡ tabulate n f
+by-entries n f l size at =
+    ext-getD 0 l (tabulate n f) (size ∙ sym (length-tabulate n f)) (λ i b. let h : i < n = omega arith in at i h ∙ sym (tabulate-at n f i h))
+
+pub entries-all : (l : List ℕ) → tabulate (length l) (λ i. getD l i 0) ≡ l
+entries-all l = sym (by-entries (length l) (λ i. getD l i 0) l refl (λ i h. refl))
