@@ -32,7 +32,7 @@ pub struct Pattern {
     pub marks: [u64; 4],
 }
 
-// A pattern, and how many pairs of its letters were compared to build hmax. The pattern is first: so it lies as searches read it fastest.
+// A pattern, and how many pairs of its letters were compared to build hmax. With the pattern first it is copied and checked fastest.
 pub struct Built {
     pub pattern: Pattern,
     pub compared: usize,
