@@ -18,6 +18,8 @@ int main(void)
          "times; of the means of the fastest tenth; and the median over the pairs of runs. All are geometric means over the copies.\n");
     print_head_of_ratios("before", "after");
     print_text_ratios();
-    print_ratios(rows + TEXTS, PATTERNS);
+    print_ratios("mean", rows + TEXTS, PATTERNS);
+    if (!versions[OTHER][0]->has_classes)
+        puts("\nThe earlier build knows no classes of bytes: the rows with 16 classes are left out.");
     return 0;
 }

@@ -1,15 +1,16 @@
 #include "agreement.h"
 
+#include <poqewan.h>
 #include <string.h>
 
-static bool same_report(const poqewan_report *a, const poqewan_report *b)
+static bool same_report(const struct report *a, const struct report *b)
 {
     return a->refusal == b->refusal && a->ending == b->ending && a->window == b->window && a->count == b->count
         && a->written == b->written;
 }
 
 struct answers {
-    poqewan_report one, other;
+    struct report one, other;
     bool listed_alike;
 };
 
@@ -17,10 +18,11 @@ struct answers {
 static struct answers ask(search_function *a, search_function *b, const struct subject *subject, uint64_t cap, size_t room,
                           struct lists lists)
 {
-    struct answers answers = {.one = a(subject, cap, lists.one, room)};
+    struct answers answers;
+    a(subject->prepared[OURS], subject, cap, lists.one, room, &answers.one);
     const size_t bytes = answers.one.written * sizeof *lists.one;
     memset(lists.other, 0xff, bytes);
-    answers.other = b(subject, cap, lists.other, room);
+    b(subject->prepared[OTHER], subject, cap, lists.other, room, &answers.other);
     answers.listed_alike = answers.one.written == answers.other.written && memcmp(lists.one, lists.other, bytes) == 0;
     return answers;
 }
@@ -39,33 +41,37 @@ bool list_alike(search_function *a, search_function *b, const struct subject *su
 
 static bool searches_agree(search_function *a, search_function *b, const struct subject *subject, struct lists lists)
 {
-    const poqewan_report whole = a(subject, UINT64_MAX, lists.one, subject->n);
+    struct report whole;
+    a(subject->prepared[OURS], subject, UINT64_MAX, lists.one, subject->n, &whole);
     return agree(a, b, subject, UINT64_MAX, subject->n, lists) && agree(a, b, subject, whole.count / 2, subject->n, lists)
         && agree(a, b, subject, UINT64_MAX, whole.written / 2, lists);
 }
 
-static bool same_pattern(const poqewan_pattern *a, const poqewan_pattern *b)
+static bool same_tables(const struct tables *a, const struct tables *b)
 {
     return a->len == b->len && a->noholes == b->noholes && memcmp(a->bytes, b->bytes, sizeof a->bytes) == 0
-        && memcmp(a->order, b->order, sizeof a->order) == 0 && memcmp(a->shift, b->shift, sizeof a->shift) == 0
-        && memcmp(a->next, b->next, sizeof a->next) == 0 && memcmp(a->marks, b->marks, sizeof a->marks) == 0;
+        && memcmp(a->classes, b->classes, sizeof a->classes) == 0 && memcmp(a->order, b->order, sizeof a->order) == 0
+        && memcmp(a->shift, b->shift, sizeof a->shift) == 0 && memcmp(a->next, b->next, sizeof a->next) == 0
+        && memcmp(a->marks, b->marks, sizeof a->marks) == 0;
 }
 
-static bool prepare_alike(const struct version *a, const struct version *b, const uint8_t *bytes, size_t m)
+/* Both prepare the pattern anew, into the same stores. */
+static bool prepare_alike(const struct version *a, const struct version *b, const struct subject *subject)
 {
     uint16_t scratch[LENT_SCRATCH], other[LENT_SCRATCH];
+    struct tables first, second;
     memset(scratch, 0xff, sizeof scratch);
     memset(other, 0xff, sizeof other);
-    const poqewan_preparation first = a->prepare(bytes, m, scratch, LENT_SCRATCH);
-    const poqewan_preparation second = b->prepare(bytes, m, other, LENT_SCRATCH);
-    return first.refusal == second.refusal && same_pattern(&first.pattern, &second.pattern)
-        && memcmp(scratch, other, POQEWAN_SCRATCH * sizeof *scratch) == 0;
+    const uint32_t refusal = a->prepare(subject, scratch, LENT_SCRATCH, subject->prepared[OURS]);
+    if (b->prepare(subject, other, LENT_SCRATCH, subject->prepared[OTHER]) != refusal)
+        return false;
+    a->copy_tables(subject->prepared[OURS], &first);
+    b->copy_tables(subject->prepared[OTHER], &second);
+    return same_tables(&first, &second) && memcmp(scratch, other, POQEWAN_SCRATCH * sizeof *scratch) == 0;
 }
 
 bool versions_agree(const struct version *a, const struct version *b, const struct subject *subject, struct lists lists)
 {
     return searches_agree(a->colussi, b->colussi, subject, lists) && searches_agree(a->kmp, b->kmp, subject, lists)
-        && (b->prepare == NULL
-            || (prepare_alike(a, b, subject->pattern.bytes, subject->pattern.len)
-                && a->charge(subject->n) == b->charge(subject->n)));
+        && (b->prepare == NULL || (prepare_alike(a, b, subject) && a->charge(subject->n) == b->charge(subject->n)));
 }

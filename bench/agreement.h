@@ -4,18 +4,16 @@
 
 #include "subject.h"
 
-#include <stdbool.h>
-
 /* Two lists to be lent, with an entry for each byte of the text. */
 struct lists {
     uint32_t *one, *other;
 };
 
-/* Whether two versions report and list the same, by each search; also with half the comparisons and with half the list, where
-   both are cut off. If the second prepares patterns, it must do that like the first, and give the same charge. */
+/* Whether our version and the other report and list the same, by each search; also with half the comparisons and with half the
+   list, where both are cut off. If the other prepares patterns, it must do that like ours, and give the same charge. */
 bool versions_agree(const struct version *a, const struct version *b, const struct subject *subject, struct lists lists);
 
-/* Whether two searches of the whole text list the same. */
+/* Whether two searches of the whole text list the same: one of ours; and one of the other side, or that needs nothing prepared. */
 bool list_alike(search_function *a, search_function *b, const struct subject *subject, struct lists lists);
 
 #endif

@@ -11,14 +11,14 @@
 
 /* The last comes nearest to the ceiling: `worst` finds no greater count for any short pattern of two letters in any text. */
 static const struct kind counted_kinds[] = {
-    {"random, 256 letters", random_255, text_of_256},
-    {"random, 4 letters", random_4, text_of_4},
-    {"random, 2 letters", random_2, text_of_2},
-    {"a^m, in a^n", one_letter, equal_text},
-    {"a^(m-1)b, in a^n", last_differs, equal_text},
-    {"aba^(m-2), in a^n", second_differs, equal_text},
-    {"Fibonacci word, in a longer one", fibonacci, fibonacci_text},
-    {"a^kba^k, repeated", middle_differs, repeated_text},
+    {"random, 256 letters", random_255, text_of_256, identity},
+    {"random, 4 letters", random_4, text_of_4, identity},
+    {"random, 2 letters", random_2, text_of_2, identity},
+    {"a^m, in a^n", one_letter, equal_text, identity},
+    {"a^(m-1)b, in a^n", last_differs, equal_text, identity},
+    {"aba^(m-2), in a^n", second_differs, equal_text, identity},
+    {"Fibonacci word, in a longer one", fibonacci, fibonacci_text, identity},
+    {"a^kba^k, repeated", middle_differs, repeated_text, identity},
 };
 
 struct tally {
@@ -28,11 +28,6 @@ struct tally {
 static uint64_t greater(uint64_t a, uint64_t b)
 {
     return a > b ? a : b;
-}
-
-static uint64_t count_by(search_function *search)
-{
-    return search(&subjects[0], UINT64_MAX, lists.one, subjects[0].n).count;
 }
 
 /* The greatest counts of a few draws, which differ where the kind is random. */

@@ -205,14 +205,51 @@ void record_text(const uint8_t *bytes, size_t m, uint8_t *text, size_t n)
     }
 }
 
-const struct kind kinds[7] = {
-    {"random, 256 letters", random_255, text_of_256},
-    {"random, 4 letters", random_4, text_of_4},
-    {"random, 2 letters", random_2, text_of_2},
-    {"a^n, a^(m-1)b", last_differs, equal_text},
-    {"a^n, a^m", one_letter, equal_text},
-    {"pieces of the pattern", random_4, pieces_text},
-    {"record with flutters", flutter, record_text},
+void identity(uint8_t classes[POQEWAN_CLASSES])
+{
+    for (size_t value = 0; value < POQEWAN_CLASSES; value++)
+        classes[value] = (uint8_t)value;
+}
+
+void random_16(uint8_t classes[POQEWAN_CLASSES])
+{
+    classes[0] = (uint8_t)below(16);
+    for (size_t value = 1; value < POQEWAN_CLASSES; value++)
+        classes[value] = (uint8_t)((classes[0] + 1u + below(15)) % 16);
+}
+
+/* By the high nibble. That of the levels from 1 to 15 is that of 0, which must be alone, so they go with those from 16 to 31. */
+void levels_16(uint8_t classes[POQEWAN_CLASSES])
+{
+    classes[0] = 0;
+    for (size_t level = 1; level < POQEWAN_CLASSES; level++)
+        classes[level] = (uint8_t)(level < 16 ? 1 : level / 16);
+}
+
+/* Puts a random byte of the same class in the place of each, so that what occurs is of the pattern's classes and hardly ever of
+   its bytes. A random text is as random as before, and the levels of a record have some more scatter. */
+static void exchange_in_classes(const uint8_t classes[POQEWAN_CLASSES], uint8_t *text, size_t n)
+{
+    uint8_t members[POQEWAN_CLASSES][POQEWAN_CLASSES];
+    size_t counts[POQEWAN_CLASSES] = {0};
+    for (size_t value = 0; value < POQEWAN_CLASSES; value++)
+        members[classes[value]][counts[classes[value]]++] = (uint8_t)value;
+    for (size_t i = 0; i < n; i++) {
+        const uint8_t class = classes[text[i]];
+        text[i] = members[class][below(counts[class])];
+    }
+}
+
+const struct kind kinds[9] = {
+    {"random, 256 letters", random_255, text_of_256, identity},
+    {"random, 4 letters", random_4, text_of_4, identity},
+    {"random, 2 letters", random_2, text_of_2, identity},
+    {"a^n, a^(m-1)b", last_differs, equal_text, identity},
+    {"a^n, a^m", one_letter, equal_text, identity},
+    {"pieces of the pattern", random_4, pieces_text, identity},
+    {"record with flutters", flutter, record_text, identity},
+    {"random, 16 classes", random_255, text_of_256, random_16},
+    {"record, 16 classes", flutter, record_text, levels_16},
 };
 
 const struct size sizes[3] = {{"64 KiB", 65536}, {"1 MiB", 1048576}, {"16 MiB", POQEWAN_LONGEST_TEXT}};
@@ -227,11 +264,15 @@ const struct family families[7] = {
 
 const size_t lengths_of_patterns[5] = {1, 8, 16, 64, 256};
 
-void make_input(const struct kind *kind, uint8_t *bytes, size_t m, uint8_t *text, size_t n, uint64_t number)
+void make_input(const struct kind *kind, uint8_t classes[POQEWAN_CLASSES], uint8_t *bytes, size_t m, uint8_t *text, size_t n,
+                uint64_t number)
 {
     seed(number);
+    kind->classes(classes);
     kind->pattern(bytes, m);
     kind->text(bytes, m, text, n);
+    if (kind->classes != identity)
+        exchange_in_classes(classes, text, n);
 }
 
 void make_in_turn(const struct family *family, uint8_t bytes[IN_TURN][POQEWAN_LONGEST_PATTERN], size_t m)

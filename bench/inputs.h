@@ -28,11 +28,18 @@ text_maker pieces_text;    /* random pieces of the pattern */
 text_maker repeated_text;  /* the pattern again and again */
 text_maker record_text;    /* reflections of a hall, with flutters */
 
+/* Classes of bytes: each writes one for every value of a byte. */
+typedef void classes_maker(uint8_t classes[POQEWAN_CLASSES]);
+classes_maker identity;  /* every value has a class to itself */
+classes_maker random_16; /* random classes of 16 values: 0 has one to itself, and the other values share 15 */
+classes_maker levels_16; /* levels of a reflection, in classes of 16 values */
+
 /* What is measured: texts with their patterns, at these sizes and lengths; and patterns without a text. */
 struct kind {
     const char *name;
     pattern_maker *pattern;
     text_maker *text;
+    classes_maker *classes;
 };
 
 struct family {
@@ -45,7 +52,8 @@ struct size {
     size_t n;
 };
 
-extern const struct kind kinds[7];
+extern const struct kind kinds[9]; /* the plain ones, which have the identity; then those with classes of 16 values */
+#define PLAIN_KINDS 7
 extern const struct size sizes[3];
 extern const size_t lengths[4];
 extern const struct family families[7];
@@ -53,8 +61,9 @@ extern const size_t lengths_of_patterns[5];
 
 #define COUNT_OF(array) (sizeof(array) / sizeof *(array))
 
-/* Writes a pattern of a kind and its text, by the generator started afresh with that number. */
-void make_input(const struct kind *kind, uint8_t *bytes, size_t m, uint8_t *text, size_t n, uint64_t number);
+/* Writes the classes, a pattern of a kind and its text, by the generator started afresh with that number. */
+void make_input(const struct kind *kind, uint8_t classes[POQEWAN_CLASSES], uint8_t *bytes, size_t m, uint8_t *text, size_t n,
+                uint64_t number);
 
 /* A cost is the mean over many patterns in turn, all different if the family is random: one pattern, or a few, the branch
    predictor would learn. */

@@ -1,14 +1,74 @@
-/* The library's functions in the form in which they are measured. */
+/* The library's functions in the form in which they are measured. It is compiled with the header of each build: those from before
+   C-19 know no classes. */
 #include "subject.h"
 
-static poqewan_report colussi(const struct subject *subject, uint64_t cap, uint32_t *positions, size_t room)
+#include <poqewan.h>
+#include <string.h>
+
+#ifdef POQEWAN_CLASSES
+#define CLASSES_OF(subject) (subject)->classes, CLASSES,
+#define HAS_CLASSES true
+_Static_assert(POQEWAN_CLASSES == CLASSES, "another number of classes");
+#else
+#define CLASSES_OF(subject)
+#define HAS_CLASSES false
+#endif
+_Static_assert(POQEWAN_LONGEST_PATTERN == LONGEST_PATTERN, "another longest pattern");
+
+static struct report plain(const poqewan_report *report)
 {
-    return poqewan_colussi(subject->pattern, subject->text, subject->n, cap, positions, room);
+    return (struct report){report->refusal, report->ending, report->window, report->count, report->written};
 }
 
-static poqewan_report kmp(const struct subject *subject, uint64_t cap, uint32_t *positions, size_t room)
+/* The pattern is passed by value, as the library's callers do: the copy is a part of the call. */
+
+static void colussi(const void *prepared, const struct subject *subject, uint64_t cap, uint32_t *positions, size_t room,
+                    struct report *report)
 {
-    return poqewan_kmp(subject->pattern, subject->text, subject->n, cap, positions, room);
+    const poqewan_report answer =
+        poqewan_colussi(*(const poqewan_pattern *)prepared, subject->text, subject->n, cap, positions, room);
+    give(report, plain(&answer));
 }
 
-const struct version version = {colussi, kmp, poqewan_prepare, poqewan_charge};
+static void kmp(const void *prepared, const struct subject *subject, uint64_t cap, uint32_t *positions, size_t room,
+                struct report *report)
+{
+    const poqewan_report answer =
+        poqewan_kmp(*(const poqewan_pattern *)prepared, subject->text, subject->n, cap, positions, room);
+    give(report, plain(&answer));
+}
+
+static uint32_t prepare(const struct subject *subject, uint16_t *scratch, size_t scratch_len, void *prepared)
+{
+    const poqewan_preparation preparation =
+        poqewan_prepare(subject->bytes, subject->m, CLASSES_OF(subject) scratch, scratch_len);
+    if (prepared != NULL)
+        *(poqewan_pattern *)prepared = preparation.pattern;
+    return preparation.refusal;
+}
+
+static void copy_classes(const poqewan_pattern *pattern, uint8_t classes[CLASSES])
+{
+#ifdef POQEWAN_CLASSES
+    memcpy(classes, pattern->classes, CLASSES);
+#else
+    (void)pattern;
+    for (size_t value = 0; value < CLASSES; value++)
+        classes[value] = (uint8_t)value;
+#endif
+}
+
+static void copy_tables(const void *prepared, struct tables *tables)
+{
+    const poqewan_pattern *pattern = prepared;
+    tables->len = pattern->len;
+    tables->noholes = pattern->noholes;
+    copy_classes(pattern, tables->classes);
+    memcpy(tables->bytes, pattern->bytes, sizeof tables->bytes);
+    memcpy(tables->order, pattern->order, sizeof tables->order);
+    memcpy(tables->shift, pattern->shift, sizeof tables->shift);
+    memcpy(tables->next, pattern->next, sizeof tables->next);
+    memcpy(tables->marks, pattern->marks, sizeof tables->marks);
+}
+
+const struct version version = {colussi, kmp, sizeof(poqewan_pattern), HAS_CLASSES, prepare, copy_tables, poqewan_charge};

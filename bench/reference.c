@@ -2,32 +2,42 @@
    One loop for each, as the rules are written, and nothing more clever: the optimizer is left to do the rest. */
 #include "subject.h"
 
-static poqewan_report report(uint32_t ending, size_t window, uint64_t count, size_t written)
+#include <poqewan.h>
+
+static struct report report_of(uint32_t ending, size_t window, uint64_t count, size_t written)
 {
-    return (poqewan_report){.ending = ending, .window = window, .count = count, .written = written};
+    return (struct report){.ending = ending, .window = window, .count = count, .written = written};
 }
 
-static poqewan_report colussi(const struct subject *subject, uint64_t cap, uint32_t *positions, size_t room)
+/* The classes of the pattern's bytes, by place. Those of the text are looked up as they are compared. */
+static void letters_by_place(const struct tables *pattern, uint8_t letters[LONGEST_PATTERN])
 {
-    const poqewan_pattern *pattern = &subject->pattern;
-    const uint8_t *text = subject->text;
-    const size_t n = subject->n, m = pattern->len, d = pattern->noholes;
+    for (size_t p = 0; p < pattern->len; p++)
+        letters[p] = pattern->classes[pattern->bytes[p]];
+}
+
+static struct report search_colussi(const struct tables *pattern, const uint8_t *text, size_t n, uint64_t cap, uint32_t *positions,
+                                    size_t room)
+{
+    const size_t m = pattern->len, d = pattern->noholes;
     size_t b = 0, i = 0, e = 0, written = 0;
     uint64_t c = 0;
+    uint8_t letters[LONGEST_PATTERN];
+    letters_by_place(pattern, letters);
 
     while (b + m <= n) {
         size_t rank;
         if (i == m || b + pattern->order[i] < e) {
             if (written == room)
-                return report(POQEWAN_FULL, b, c, written);
+                return report_of(POQEWAN_FULL, b, c, written);
             positions[written++] = (uint32_t)b;
             rank = m;
         } else {
             if (c == cap)
-                return report(POQEWAN_SPENT, b, c, written);
+                return report_of(POQEWAN_SPENT, b, c, written);
             c++;
             size_t place = pattern->order[i];
-            if (pattern->bytes[place] == text[b + place]) {
+            if (letters[place] == pattern->classes[text[b + place]]) {
                 i++;
                 continue;
             }
@@ -38,11 +48,11 @@ static poqewan_report colussi(const struct subject *subject, uint64_t cap, uint3
         b += pattern->shift[rank];
         i = pattern->next[rank];
     }
-    return report(POQEWAN_DONE, 0, c, written);
+    return report_of(POQEWAN_DONE, 0, c, written);
 }
 
 /* The shift at each matched length: kmin at a nohole, which the pattern has by rank; p + 1 at a hole p; rmin(0) at m. */
-static void shifts_by_length(const poqewan_pattern *pattern, uint16_t shifts[POQEWAN_LONGEST_PATTERN + 1])
+static void shifts_by_length(const struct tables *pattern, uint16_t shifts[LONGEST_PATTERN + 1])
 {
     for (size_t p = 0; p < pattern->len; p++)
         shifts[p] = (uint16_t)(p + 1);
@@ -51,26 +61,27 @@ static void shifts_by_length(const poqewan_pattern *pattern, uint16_t shifts[POQ
     shifts[pattern->len] = pattern->shift[pattern->len];
 }
 
-static poqewan_report kmp(const struct subject *subject, uint64_t cap, uint32_t *positions, size_t room)
+static struct report search_kmp(const struct tables *pattern, const uint8_t *text, size_t n, uint64_t cap, uint32_t *positions,
+                                size_t room)
 {
-    const poqewan_pattern *pattern = &subject->pattern;
-    const uint8_t *text = subject->text;
-    const size_t n = subject->n, m = pattern->len;
+    const size_t m = pattern->len;
     size_t b = 0, i = 0, written = 0;
     uint64_t c = 0;
-    uint16_t shifts[POQEWAN_LONGEST_PATTERN + 1];
+    uint8_t letters[LONGEST_PATTERN];
+    uint16_t shifts[LONGEST_PATTERN + 1];
+    letters_by_place(pattern, letters);
     shifts_by_length(pattern, shifts);
 
     while (b + m <= n) {
         if (i == m) {
             if (written == room)
-                return report(POQEWAN_FULL, b, c, written);
+                return report_of(POQEWAN_FULL, b, c, written);
             positions[written++] = (uint32_t)b;
         } else {
             if (c == cap)
-                return report(POQEWAN_SPENT, b, c, written);
+                return report_of(POQEWAN_SPENT, b, c, written);
             c++;
-            if (pattern->bytes[i] == text[b + i]) {
+            if (letters[i] == pattern->classes[text[b + i]]) {
                 i++;
                 continue;
             }
@@ -79,7 +90,19 @@ static poqewan_report kmp(const struct subject *subject, uint64_t cap, uint32_t 
         b += s;
         i = i > s ? i - s : 0;
     }
-    return report(POQEWAN_DONE, 0, c, written);
+    return report_of(POQEWAN_DONE, 0, c, written);
 }
 
-const struct version version = {.colussi = colussi, .kmp = kmp};
+static void colussi(const void *prepared, const struct subject *subject, uint64_t cap, uint32_t *positions, size_t room,
+                    struct report *report)
+{
+    give(report, search_colussi(prepared, subject->text, subject->n, cap, positions, room));
+}
+
+static void kmp(const void *prepared, const struct subject *subject, uint64_t cap, uint32_t *positions, size_t room,
+                struct report *report)
+{
+    give(report, search_kmp(prepared, subject->text, subject->n, cap, positions, room));
+}
+
+const struct version version = {.colussi = colussi, .kmp = kmp, .size = sizeof(struct tables), .has_classes = true};

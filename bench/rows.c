@@ -13,6 +13,7 @@ const struct version *const versions[SIDES][COPIES] = {COPIES_OF(ours), COPIES_O
 
 struct subject subjects[IN_TURN];
 struct lists lists;
+static uint8_t *stores[SIDES]; /* with a prepared pattern for each subject */
 
 /* Memory that was written once, so that no measurement pays for the first touch of a page. */
 static void *touched(size_t bytes)
@@ -30,59 +31,102 @@ static size_t subjects_of(const struct input *input)
     return input->kind != NULL ? 1 : IN_TURN;
 }
 
+/* A side that prepares nothing itself is given the tables of ours. */
+static void prepare(const struct subject *subject, enum side side)
+{
+    uint16_t scratch[LENT_SCRATCH];
+    const struct version *version = versions[side][0];
+    if (version->prepare == NULL) {
+        versions[OURS][0]->copy_tables(subject->prepared[OURS], subject->prepared[side]);
+        return;
+    }
+    const uint32_t refusal = version->prepare(subject, scratch, LENT_SCRATCH, subject->prepared[side]);
+    if (refusal != 0) {
+        fprintf(stderr, "bench: a pattern is refused with %u\n", (unsigned)refusal);
+        exit(1);
+    }
+}
+
 void make(const struct input *input)
 {
-    static uint8_t *text, bytes[IN_TURN][POQEWAN_LONGEST_PATTERN];
+    static uint8_t *text, bytes[IN_TURN][POQEWAN_LONGEST_PATTERN], classes[POQEWAN_CLASSES];
     if (text == NULL) {
         text = touched(POQEWAN_LONGEST_TEXT);
         lists.one = touched(POQEWAN_LONGEST_TEXT * sizeof *lists.one);
         lists.other = touched(POQEWAN_LONGEST_TEXT * sizeof *lists.other);
+        for (enum side side = 0; side < SIDES; side++)
+            stores[side] = touched(IN_TURN * versions[side][0]->size);
     }
-    if (input->kind != NULL)
-        make_input(input->kind, bytes[0], input->m, text, input->size->n, input->number);
-    else
+    if (input->kind != NULL) {
+        make_input(input->kind, classes, bytes[0], input->m, text, input->size->n, input->number);
+    } else {
+        identity(classes);
         make_in_turn(input->family, bytes, input->m);
-    for (size_t i = 0; i < subjects_of(input); i++) {
-        uint16_t scratch[LENT_SCRATCH];
-        const poqewan_preparation prepared = versions[OURS][0]->prepare(bytes[i], input->m, scratch, LENT_SCRATCH);
-        if (prepared.refusal != 0) {
-            fprintf(stderr, "bench: a pattern is refused with %u\n", (unsigned)prepared.refusal);
-            exit(1);
-        }
-        subjects[i].pattern = prepared.pattern;
-        subjects[i].text = text;
-        subjects[i].n = input->kind != NULL ? input->size->n : 0;
     }
+    for (size_t i = 0; i < subjects_of(input); i++) {
+        subjects[i] = (struct subject){bytes[i], input->m, classes, text, input->kind != NULL ? input->size->n : 0, {NULL}};
+        for (enum side side = 0; side < SIDES; side++) {
+            subjects[i].prepared[side] = stores[side] + i * versions[side][0]->size;
+            prepare(&subjects[i], side);
+        }
+    }
+}
+
+uint64_t count_by(search_function *search)
+{
+    struct report report;
+    search(subjects[0].prepared[OURS], &subjects[0], UINT64_MAX, lists.one, subjects[0].n, &report);
+    return report.count;
 }
 
 /* The works of both sides. */
 
 static void run_colussi(int side, int copy)
 {
-    versions[side][copy]->colussi(&subjects[0], UINT64_MAX, lists.one, subjects[0].n);
+    versions[side][copy]->colussi(subjects[0].prepared[side], &subjects[0], UINT64_MAX, lists.one, subjects[0].n, NULL);
 }
 
 static void run_kmp(int side, int copy)
 {
-    versions[side][copy]->kmp(&subjects[0], UINT64_MAX, lists.one, subjects[0].n);
+    versions[side][copy]->kmp(subjects[0].prepared[side], &subjects[0], UINT64_MAX, lists.one, subjects[0].n, NULL);
 }
 
 static void run_preparation(int side, int copy)
 {
     uint16_t scratch[LENT_SCRATCH];
     for (size_t i = 0; i < IN_TURN; i++)
-        versions[side][copy]->prepare(subjects[i].pattern.bytes, subjects[i].pattern.len, scratch, LENT_SCRATCH);
+        versions[side][copy]->prepare(&subjects[i], scratch, LENT_SCRATCH, NULL);
 }
 
 /* The search of an empty text does nothing else. */
 static void run_check(int side, int copy)
 {
     for (size_t i = 0; i < IN_TURN; i++)
-        versions[side][copy]->colussi(&subjects[i], 0, NULL, 0);
+        versions[side][copy]->colussi(subjects[i].prepared[side], &subjects[i], 0, NULL, 0, NULL);
 }
 
-static const struct work colussi = {"Colussi", run_colussi}, kmp = {"KMP", run_kmp};
-static const struct work preparation = {"preparation", run_preparation}, check = {"check", run_check};
+/* These read what a side has prepared, the first pattern or all, before its run: the other side has its own, and the cache may be
+   too small for both. */
+
+static void read_store(int side, size_t bytes)
+{
+    const volatile uint8_t *store = stores[side];
+    for (size_t at = 0; at < bytes; at += 64)
+        (void)store[at];
+}
+
+static void read_first(int side)
+{
+    read_store(side, versions[side][0]->size);
+}
+
+static void read_all(int side)
+{
+    read_store(side, IN_TURN * versions[side][0]->size);
+}
+
+static const struct work colussi = {"Colussi", run_colussi, read_first}, kmp = {"KMP", run_kmp, read_first};
+static const struct work preparation = {"preparation", run_preparation, NULL}, check = {"check", run_check, read_all};
 
 /* The rows. */
 
@@ -102,6 +146,8 @@ static void set_text_row(struct row *row, size_t kind, size_t size, size_t m)
     static const struct share shares[COUNT_OF(sizes)] = {
         {1, 2, COPIES, wall_time}, {1, 1, COPIES, thread_time}, {8, 1, COPIES / 2, thread_time}};
     row->input = (struct input){.kind = &kinds[kind], .size = &sizes[size], .m = m, .number = m};
+    if (kinds[kind].classes != identity && !(versions[OURS][0]->has_classes && versions[OTHER][0]->has_classes))
+        return;
     add_trial(row, &colussi, SIDES, shares[size]);
     add_trial(row, &kmp, SIDES, shares[size]);
 }
@@ -159,7 +205,7 @@ bool agree_on_rows(bool (*agree)(const struct subject *subject))
 {
     bool agreed = true;
     for (const struct row *row = rows; row < rows + ROWS; row++)
-        if (!agree_on_row(row, agree)) {
+        if (row->trials > 0 && !agree_on_row(row, agree)) {
             printf("DIFFERS: %s, %s, m = %zu\n", name_of(row), row->input.kind != NULL ? size_name_of(row) : "no text",
                    row->input.m);
             agreed = false;
@@ -209,7 +255,7 @@ static void print_row(const struct row *row, const struct trial *trial)
            ratios[LEAST], ratios[TENTH], ratios[PAIRS]);
 }
 
-void print_ratios(const struct row *from, size_t count)
+void print_ratios(const char *mean, const struct row *from, size_t count)
 {
     for (int t = 0; t < 2; t++) {
         double means[RATIOS] = {1, 1, 1};
@@ -218,14 +264,23 @@ void print_ratios(const struct row *from, size_t count)
             for (enum ratio ratio = 0; ratio < RATIOS; ratio++)
                 into_mean(&means[ratio], row->trial[t].times[OTHER].ratios[ratio], count);
         }
-        printf("| %-11s | mean                  | %6s |     |          |          | %5.3f | %5.3f | %5.3f |\n",
-               from->trial[t].work->name, size_name_of(from), means[LEAST], means[TENTH], means[PAIRS]);
+        printf("| %-11s | %-21s | %6s |     |          |          | %5.3f | %5.3f | %5.3f |\n", from->trial[t].work->name, mean,
+               size_name_of(from), means[LEAST], means[TENTH], means[PAIRS]);
     }
+}
+
+/* The texts of one size, with so many rows of each kind. */
+static void print_ratios_of_size(const struct row *from, size_t of_each)
+{
+    const struct row *with_classes = from + PLAIN_KINDS * of_each;
+    print_ratios("mean", from, PLAIN_KINDS * of_each);
+    if (with_classes->trials > 0)
+        print_ratios("mean, 16 classes", with_classes, (COUNT_OF(kinds) - PLAIN_KINDS) * of_each);
 }
 
 void print_text_ratios(void)
 {
-    print_ratios(rows, SHORT_TEXTS);
+    print_ratios_of_size(rows, COUNT_OF(lengths));
     for (const struct row *of_size = rows + SHORT_TEXTS; of_size < rows + TEXTS; of_size += COUNT_OF(kinds))
-        print_ratios(of_size, COUNT_OF(kinds));
+        print_ratios_of_size(of_size, 1);
 }

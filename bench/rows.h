@@ -6,7 +6,6 @@
 #include "inputs.h"
 #include "turns.h"
 
-enum side { OURS, OTHER, SIDES };
 extern const struct version *const versions[SIDES][COPIES];
 
 /* What is searched: a pattern in a text; or many patterns in turn, and no text. */
@@ -18,10 +17,14 @@ struct input {
     uint64_t number; /* that the generator starts with, if there is a text */
 };
 
-/* Makes an input. Its patterns, or its only one, are then in `subjects`, and the lists have an entry for each byte. */
+/* Makes an input, and lets both sides prepare it. Its patterns, or its only one, are then in `subjects`, and the lists have an
+   entry for each byte. */
 void make(const struct input *input);
 extern struct subject subjects[IN_TURN];
 extern struct lists lists;
+
+/* What a search of ours counts in the text of the first subject. */
+uint64_t count_by(search_function *search);
 
 /* The trials of every text and of all patterns. What a program adds comes after. */
 enum { COLUSSI, KMP, ADDED, MOST_TRIALS = ADDED + 2 };
@@ -29,7 +32,7 @@ enum { PREPARATION, CHECK };
 
 struct row {
     struct input input;
-    int trials;
+    int trials; /* 0 in a row that is left out */
     struct trial trial[MOST_TRIALS];
 };
 
@@ -42,11 +45,12 @@ struct row {
 extern struct row rows[ROWS];
 extern struct row *const longest_texts; /* one of each kind */
 
-/* Sets the rows: both searches by both sides in texts; preparation and the check of patterns by the sides that have them. */
+/* Sets the rows: both searches by both sides in texts; preparation and the check of patterns by the sides that have them. Kinds
+   with classes are left out if a side has none. */
 void set_rows(void);
 void add_trial(struct row *row, const struct work *work, int variants, struct share share);
 
-/* Whether that is so of every subject of every row. A row of which it isn't is printed. */
+/* Whether that is so of every subject of every row, but for those left out. A row of which it isn't is printed. */
 bool agree_on_rows(bool (*agree)(const struct subject *subject));
 bool sides_agree(const struct subject *subject);
 
@@ -56,9 +60,10 @@ const char *name_of(const struct row *row);
 const char *size_name_of(const struct row *row);
 
 /* The table of the first two trials of rows: its head, with the names of both sides; and lines with the least times in
-   nanoseconds, a byte or a call, and the ratios, with geometric means at the end: of rows, and of the texts of each size. */
+   nanoseconds, a byte or a call, and the ratios, with geometric means at the end: of rows, and of the texts of each size, where
+   the plain kinds have a mean of their own and those with classes have another. */
 void print_head_of_ratios(const char *other, const char *ours);
-void print_ratios(const struct row *from, size_t count);
+void print_ratios(const char *mean, const struct row *from, size_t count);
 void print_text_ratios(void);
 
 #endif

@@ -1,23 +1,64 @@
-/* What a search is given, and what is measured: versions of the searches. */
+/* What a search is given, and what is measured: versions of the searches. None of the library's own types is in here, for those
+   differ from build to build: a version keeps what it prepares in a store of its own, and answers in plain numbers. */
 #ifndef SUBJECT_H
 #define SUBJECT_H
 
-#include <poqewan.h>
+#include <stdbool.h>
+#include <stddef.h>
+#include <stdint.h>
 
-/* A prepared pattern and the text to look for it in. */
+#define LONGEST_PATTERN 256
+#define CLASSES 256
+
+/* The two that are compared. */
+enum side { OURS, OTHER, SIDES };
+
+/* A pattern with its classes, and the text to look for it in. Each side has prepared it before, into a store of its own. */
 struct subject {
-    poqewan_pattern pattern;
+    const uint8_t *bytes;
+    size_t m;
+    const uint8_t *classes; /* one for each value of a byte */
     const uint8_t *text;
     size_t n;
+    void *prepared[SIDES];
 };
 
-/* A search, whatever it is, under one call. */
-typedef poqewan_report search_function(const struct subject *subject, uint64_t cap, uint32_t *positions, size_t room);
+/* The library's report. */
+struct report {
+    uint32_t refusal, ending;
+    size_t window;
+    uint64_t count;
+    size_t written;
+};
 
-/* A build of the library; or plain C by the same rules, which has the searches and nothing more. */
+/* A search, whatever it is, under one call: with what its side has prepared, and with a place for the report, or NULL. A run that
+   is measured asks for no report, so that it doesn't pay for turning the library's into this one. */
+typedef void search_function(const void *prepared, const struct subject *subject, uint64_t cap, uint32_t *positions, size_t room,
+                             struct report *report);
+
+static inline void give(struct report *place, struct report report)
+{
+    if (place != NULL)
+        *place = report;
+}
+
+/* What the prepared patterns of all builds have. The classes of a build that knows none are the identity. */
+struct tables {
+    size_t len, noholes;
+    uint8_t bytes[LONGEST_PATTERN], classes[CLASSES], order[LONGEST_PATTERN];
+    uint16_t shift[LONGEST_PATTERN + 1], next[LONGEST_PATTERN + 1];
+    uint64_t marks[4];
+};
+
+/* A build of the library; or plain C by the same rules, which has the searches and nothing more: its store holds the tables that
+   the library has prepared. */
 struct version {
     search_function *colussi, *kmp;
-    poqewan_preparation (*prepare)(const uint8_t *bytes, size_t bytes_len, uint16_t *scratch, size_t scratch_len);
+    size_t size;      /* of a store */
+    bool has_classes; /* or else it can only be asked where they are the identity */
+    /* Prepares the pattern of a subject, into a store or NULL, and gives the number of the refusal. */
+    uint32_t (*prepare)(const struct subject *subject, uint16_t *scratch, size_t scratch_len, void *prepared);
+    void (*copy_tables)(const void *prepared, struct tables *tables);
     uint64_t (*charge)(uint64_t count);
 };
 

@@ -27,6 +27,8 @@ static double time_of(const struct trial *trial, int variant, int copy)
     volatile char lower[16 + copy * LOWER_STACK];
     lower[0] = 0;
     (void)lower[0];
+    if (trial->work->before != NULL)
+        trial->work->before(variant);
     const double start = trial->share.clock();
     trial->work->run(variant, copy);
     return trial->share.clock() - start;

@@ -17,10 +17,11 @@
    copies meet every place in a line, and places all over a page. */
 #define LOWER_STACK 528
 
-/* What is done by the variants that take turns. */
+/* What is done by the variants that take turns; and what comes before each run, out of the time, if anything does. */
 struct work {
     const char *name;
     void (*run)(int variant, int copy);
+    void (*before)(int variant);
 };
 
 /* Every so many rounds, so many turns of one of so many copies. Few turns: those of a round meet the same slow spell or quiet

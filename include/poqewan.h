@@ -1,10 +1,13 @@
 /*
  * Exact search for every occurrence of a byte pattern in a text, with the comparisons of a pattern byte with a text byte
- * counted. Link libpoqewan.a, which is for x86-64. Example:
+ * counted. Two bytes are equal when their classes are. Link libpoqewan.a, which is for x86-64. Example, with each value a
+ * class of its own:
  *
+ *     uint8_t classes[POQEWAN_CLASSES];
  *     uint16_t scratch[POQEWAN_SCRATCH];
  *     uint32_t positions[8192];
- *     poqewan_preparation p = poqewan_prepare(bytes, m, scratch, POQEWAN_SCRATCH);
+ *     poqewan_identity(classes, POQEWAN_CLASSES);
+ *     poqewan_preparation p = poqewan_prepare(bytes, m, classes, POQEWAN_CLASSES, scratch, POQEWAN_SCRATCH);
  *     if (p.refusal == 0) {
  *         poqewan_report r = poqewan_colussi(p.pattern, text, n, UINT64_MAX, positions, 8192);
  *         if (r.refusal == 0 && r.ending == POQEWAN_DONE)
@@ -27,9 +30,10 @@
 extern "C" {
 #endif
 
-/* The longest pattern and the longest text that are accepted, and the least scratch. */
+/* The longest pattern and the longest text that are accepted, the number of classes, and the least scratch. */
 #define POQEWAN_LONGEST_PATTERN 256
 #define POQEWAN_LONGEST_TEXT 16777216
+#define POQEWAN_CLASSES 256
 #define POQEWAN_SCRATCH 514
 
 /* Refusals, by their numbers. Where more than one applies, the first in the function's order of tests is given. */
@@ -39,6 +43,8 @@ extern "C" {
 #define POQEWAN_FALSE_PATTERN 4
 #define POQEWAN_LONG_TEXT 5
 #define POQEWAN_ZERO_IN_PATTERN 10
+#define POQEWAN_CLASSES_NOT_256 14
+#define POQEWAN_ZERO_CLASS_SHARED 15
 
 /* How a search ended: run to its end; or cut off at a window, where a comparison was due and the cap was spent, or where the
    pattern occurred and the list had no free entry. */
@@ -46,12 +52,14 @@ extern "C" {
 #define POQEWAN_SPENT 1
 #define POQEWAN_FULL 2
 
-/* A pattern prepared for search: m bytes, none of them 0, and their tables. The entries past those defined are 0. A search
-   refuses any value that preparation does not give, so a copy from a file or a wire needs no check of its own. */
+/* A pattern prepared for search: m bytes, none of them 0, the classes by which bytes are compared, and the tables of these
+   bytes by these classes. The entries past those defined are 0. A search refuses any value that preparation does not give,
+   so a copy from a file or a wire needs no check of its own. */
 typedef struct poqewan_pattern {
     size_t len;     /* m, from 1 to POQEWAN_LONGEST_PATTERN */
     size_t noholes; /* the number of noholes */
-    uint8_t bytes[POQEWAN_LONGEST_PATTERN];      /* m bytes */
+    uint8_t bytes[POQEWAN_LONGEST_PATTERN];      /* m bytes, as they were lent */
+    uint8_t classes[POQEWAN_CLASSES];            /* the class of each byte value */
     uint8_t order[POQEWAN_LONGEST_PATTERN];      /* the place that each rank compares: m entries */
     uint16_t shift[POQEWAN_LONGEST_PATTERN + 1]; /* how far the window moves, for each rank and for rank m: m + 1 entries */
     uint16_t next[POQEWAN_LONGEST_PATTERN + 1];  /* the rank to go on at: m + 1 entries */
@@ -74,30 +82,37 @@ typedef struct poqewan_report {
     size_t written;  /* the positions written into the list */
 } poqewan_report;
 
+/* Fills entry v with v mod 256. So POQEWAN_CLASSES entries give each byte value a class of its own: itself. */
+void poqewan_identity(uint8_t *classes, size_t classes_len);
+
 /*
- * Prepares a pattern for search. Refused, in this order: no byte (1), more than POQEWAN_LONGEST_PATTERN bytes (2), a byte 0
- * among them (10), a scratch of fewer than POQEWAN_SCRATCH numbers (3). After success the first POQEWAN_SCRATCH numbers of
- * the scratch are 0 and the rest unchanged; after a refusal it is unchanged.
+ * Prepares a pattern for search. Entry v of the classes is the class of byte value v. Two bytes are equal when their
+ * classes are: here, and in every search for the pattern. Refused, in this order: no byte (1), more than
+ * POQEWAN_LONGEST_PATTERN bytes (2), a byte 0 among them (10), a number of classes other than POQEWAN_CLASSES (14), a value
+ * other than 0 with the class of 0 (15), a scratch of fewer than POQEWAN_SCRATCH numbers (3). After success the first
+ * POQEWAN_SCRATCH numbers of the scratch are 0 and the rest unchanged; after a refusal it is unchanged.
  *
  * `compared` counts the comparisons of two pattern bytes that Colussi's fast method (1991, Algorithm 7) makes in
  * building the table hmax. Its look at the closing sentinel is not counted. With m pattern bytes the number is 0 if
  * m = 1, at most 2 * m - 3 if m >= 2, and so at most 2 * m - 2.
  *
- * A byte 0 closes a seat's reflections in a text, which may hold any byte. No pattern holds it, so no occurrence joins two
- * seats.
+ * A byte 0 closes a seat's reflections in a text, which may hold any byte. No pattern holds it and no other value shares
+ * its class, so no occurrence joins two seats.
  */
-poqewan_preparation poqewan_prepare(const uint8_t *bytes, size_t bytes_len, uint16_t *scratch, size_t scratch_len);
+poqewan_preparation poqewan_prepare(const uint8_t *bytes, size_t bytes_len, const uint8_t *classes, size_t classes_len,
+                                    uint16_t *scratch, size_t scratch_len);
 
 /*
  * Searches a text in Colussi's order, with at most `cap` comparisons, and fills the list from its start with the positions
  * where the pattern occurs, overlaps included. The entries after them are unchanged. Refused, in this order, with the list
- * unchanged: a pattern that is not what preparation gives for its own length and bytes (4), a text of more than
+ * unchanged: a pattern that is not what preparation gives for its own length, bytes and classes (4), a text of more than
  * POQEWAN_LONGEST_TEXT bytes (5).
  *
- * The positions are exactly the occurrences, ascending, each once; of a search cut off at window b, exactly those below b.
- * None of them covers a byte 0 of the text. The search is spent only with `count` equal to `cap` and a comparison due, and
- * full only with every entry of the list written and an occurrence at the window. With n text bytes and m pattern bytes,
- * 2 * count <= 3 * n - m at the end if n >= m, and count = 0 if n < m; cut off at window b, 2 * count <= 3 * b + 2 * m.
+ * The pattern occurs where each of its bytes equals the text's by the pattern's own classes. The positions are exactly the
+ * occurrences, ascending, each once; of a search cut off at window b, exactly those below b. None of them covers a byte 0
+ * of the text. The search is spent only with `count` equal to `cap` and a comparison due, and full only with every entry of
+ * the list written and an occurrence at the window. With n text bytes and m pattern bytes, 2 * count <= 3 * n - m at the end
+ * if n >= m, and count = 0 if n < m; cut off at window b, 2 * count <= 3 * b + 2 * m.
  */
 poqewan_report poqewan_colussi(poqewan_pattern pattern, const uint8_t *text, size_t text_len, uint64_t cap,
                                uint32_t *positions, size_t positions_len);

@@ -32,9 +32,13 @@ pub type Search = unsafe extern "C" fn(
 ) -> Report;
 
 extern "C" {
+    pub fn poqewan_identity(classes: *mut u8, classes_len: usize);
+
     pub fn poqewan_prepare(
         bytes: *const u8,
         bytes_len: usize,
+        classes: *const u8,
+        classes_len: usize,
         scratch: *mut u16,
         scratch_len: usize,
     ) -> Preparation;
@@ -62,16 +66,17 @@ extern "C" {
 
 // The structs travel by value: a field that moved would be read as another.
 const _: () = {
-    assert!(size_of::<Pattern>() == 1592);
+    assert!(size_of::<Pattern>() == 1848);
     assert!(offset_of!(Pattern, len) == 0);
     assert!(offset_of!(Pattern, noholes) == 8);
     assert!(offset_of!(Pattern, bytes) == 16);
-    assert!(offset_of!(Pattern, order) == 272);
-    assert!(offset_of!(Pattern, shift) == 528);
-    assert!(offset_of!(Pattern, next) == 1042);
-    assert!(offset_of!(Pattern, marks) == 1560);
+    assert!(offset_of!(Pattern, classes) == 272);
+    assert!(offset_of!(Pattern, order) == 528);
+    assert!(offset_of!(Pattern, shift) == 784);
+    assert!(offset_of!(Pattern, next) == 1298);
+    assert!(offset_of!(Pattern, marks) == 1816);
 
-    assert!(size_of::<Preparation>() == 1600);
+    assert!(size_of::<Preparation>() == 1856);
     assert!(offset_of!(Preparation, refusal) == 0);
     assert!(offset_of!(Preparation, compared) == 4);
     assert!(offset_of!(Preparation, pattern) == 8);

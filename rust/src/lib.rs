@@ -1,17 +1,19 @@
 //! Exact search for every occurrence of a byte pattern in a text, with the comparisons of a pattern
-//! byte with a text byte counted.
+//! byte with a text byte counted. Two bytes are equal when their classes are.
 //!
 //! These are safe wrappers of a proved library. Every function answers whatever it is given: what
 //! it answers, and what the lent memory then holds, is fixed by the arguments alone and proved. No
 //! function allocates or changes anything but what is said below.
 //!
+//! With each value a class of its own:
+//!
 //! ```
-//! use poqewan::{charge, colussi, prepare, Ending, Refusal, SCRATCH};
+//! use poqewan::{charge, colussi, identity, prepare, Ending, Refusal, SCRATCH};
 //!
 //! let mut scratch = [0; SCRATCH];
 //! let mut positions = [0; 8];
 //!
-//! let preparation = prepare(b"aba", &mut scratch)?;
+//! let preparation = prepare(b"aba", &identity(), &mut scratch)?;
 //! assert_eq!(preparation.compared, 2);
 //!
 //! let report = colussi(&preparation.pattern, b"ababa", u64::MAX, &mut positions)?;
@@ -20,6 +22,22 @@
 //! assert_eq!(positions[..report.written], [0, 2]);
 //! assert_eq!(report.count, 5);
 //! assert_eq!(charge(report.count), 1);
+//! # Ok::<(), Refusal>(())
+//! ```
+//!
+//! With small and capital letters in one class:
+//!
+//! ```
+//! use poqewan::{colussi, identity, prepare, Refusal, SCRATCH};
+//!
+//! let mut classes = identity();
+//! classes.make_ascii_lowercase();
+//!
+//! let pattern = prepare(b"aBa", &classes, &mut [0; SCRATCH])?.pattern;
+//! let mut positions = [0; 8];
+//! let report = colussi(&pattern, b"AbABA", u64::MAX, &mut positions)?;
+//!
+//! assert_eq!(positions[..report.written], [0, 2]);
 //! # Ok::<(), Refusal>(())
 //! ```
 
@@ -37,11 +55,14 @@ pub const LONGEST_PATTERN: usize = 256;
 /// The longest text that is accepted, in bytes.
 pub const LONGEST_TEXT: usize = 16_777_216;
 
+/// The number of classes: one for each byte value.
+pub const CLASSES: usize = 256;
+
 /// The least scratch, in numbers.
 pub const SCRATCH: usize = 514;
 
-/// A pattern prepared for search: m bytes, none of them 0, and their tables. The entries past those
-/// defined are 0.
+/// A pattern prepared for search: m bytes, none of them 0, the classes by which bytes are compared,
+/// and the tables of these bytes by these classes. The entries past those defined are 0.
 ///
 /// A search refuses any value that preparation does not give, so a copy from a file or a wire needs
 /// no check of its own.
@@ -52,8 +73,10 @@ pub struct Pattern {
     pub len: usize,
     /// The number of noholes.
     pub noholes: usize,
-    /// m bytes.
+    /// m bytes, as they were lent.
     pub bytes: [u8; LONGEST_PATTERN],
+    /// The class of each byte value.
+    pub classes: [u8; CLASSES],
     /// The place that each rank compares: m entries.
     pub order: [u8; LONGEST_PATTERN],
     /// How far the window moves, for each rank and for rank m: m + 1 entries.
@@ -85,12 +108,16 @@ pub enum Refusal {
     LongPattern = 2,
     /// The scratch has fewer than [`SCRATCH`] numbers.
     ShortScratch = 3,
-    /// The pattern is not what preparation gives for its own length and bytes.
+    /// The pattern is not what preparation gives for its own length, bytes and classes.
     FalsePattern = 4,
     /// The text has more than [`LONGEST_TEXT`] bytes.
     LongText = 5,
     /// The pattern holds a byte 0.
     ZeroInPattern = 10,
+    /// The number of classes is not [`CLASSES`].
+    ClassesNot256 = 14,
+    /// A value other than 0 has the class of 0.
+    ZeroClassShared = 15,
 }
 
 impl Refusal {
@@ -108,10 +135,12 @@ impl fmt::Display for Refusal {
             Self::LongPattern => "the pattern has too many bytes",
             Self::ShortScratch => "the scratch has too few numbers",
             Self::FalsePattern => {
-                "the pattern is not what preparation gives for its length and bytes"
+                "the pattern is not what preparation gives for its length, bytes and classes"
             }
             Self::LongText => "the text has too many bytes",
             Self::ZeroInPattern => "the pattern holds a byte 0",
+            Self::ClassesNot256 => "the number of classes is not 256",
+            Self::ZeroClassShared => "a value other than 0 has the class of 0",
         })
     }
 }
@@ -140,10 +169,22 @@ pub struct Report {
     pub written: usize,
 }
 
-/// Prepares a pattern for search, and counts what that costs.
+/// The classes that give each byte value a class of its own: itself.
+#[must_use]
+pub fn identity() -> [u8; CLASSES] {
+    let mut classes = [0; CLASSES];
+    // SAFETY: the pointer and the number of elements are those of an array, which nothing else
+    // borrows.
+    unsafe { ffi::poqewan_identity(classes.as_mut_ptr(), classes.len()) };
+    classes
+}
+
+/// Prepares a pattern for search, and counts what that costs. Entry v of the classes is the class of
+/// byte value v. Two bytes are equal when their classes are: here, and in every search for the
+/// pattern.
 ///
-/// A byte 0 closes a seat's reflections in a text, which may hold any byte. No pattern holds it, so
-/// no occurrence joins two seats.
+/// A byte 0 closes a seat's reflections in a text, which may hold any byte. No pattern holds it and
+/// no other value shares its class, so no occurrence joins two seats.
 ///
 /// After success the first [`SCRATCH`] numbers of the scratch are 0 and the rest unchanged; after a
 /// refusal it is unchanged.
@@ -151,14 +192,17 @@ pub struct Report {
 /// # Errors
 ///
 /// Refused, in this order: no byte (1), more than [`LONGEST_PATTERN`] bytes (2), a byte 0 among them
-/// (10), a scratch of fewer than [`SCRATCH`] numbers (3).
-pub fn prepare(bytes: &[u8], scratch: &mut [u16]) -> Result<Preparation, Refusal> {
+/// (10), a number of classes other than [`CLASSES`] (14), a value other than 0 with the class of 0
+/// (15), a scratch of fewer than [`SCRATCH`] numbers (3).
+pub fn prepare(bytes: &[u8], classes: &[u8], scratch: &mut [u16]) -> Result<Preparation, Refusal> {
     // SAFETY: each pointer and its number of elements are those of a slice, and what is written is
     // borrowed mutably, so it overlaps nothing else.
     let answer = unsafe {
         ffi::poqewan_prepare(
             bytes.as_ptr(),
             bytes.len(),
+            classes.as_ptr(),
+            classes.len(),
             scratch.as_mut_ptr(),
             scratch.len(),
         )
@@ -174,8 +218,9 @@ pub fn prepare(bytes: &[u8], scratch: &mut [u16]) -> Result<Preparation, Refusal
 /// start with the positions where the pattern occurs, overlaps included. The entries after them are
 /// unchanged.
 ///
-/// The positions are exactly the occurrences, ascending, each once; of a search cut off at window
-/// b, exactly those below b. None of them covers a byte 0 of the text. The search is spent only with
+/// The pattern occurs where each of its bytes equals the text's by the pattern's own classes. The
+/// positions are exactly the occurrences, ascending, each once; of a search cut off at window b,
+/// exactly those below b. None of them covers a byte 0 of the text. The search is spent only with
 /// `count` equal to `cap` and a comparison due, and full only with every entry of the list written
 /// and an occurrence at the window. With n text bytes and m pattern bytes, 2 * count <= 3 * n - m at
 /// the end if n >= m, and count = 0 if n < m; cut off at window b, 2 * count <= 3 * b + 2 * m.
@@ -183,7 +228,7 @@ pub fn prepare(bytes: &[u8], scratch: &mut [u16]) -> Result<Preparation, Refusal
 /// # Errors
 ///
 /// Refused, in this order, with the list unchanged: a pattern that is not what preparation gives
-/// for its own length and bytes (4), a text of more than [`LONGEST_TEXT`] bytes (5).
+/// for its own length, bytes and classes (4), a text of more than [`LONGEST_TEXT`] bytes (5).
 pub fn colussi(
     pattern: &Pattern,
     text: &[u8],
@@ -251,6 +296,8 @@ fn accepted(number: u32) -> Result<(), Refusal> {
         4 => Err(Refusal::FalsePattern),
         5 => Err(Refusal::LongText),
         10 => Err(Refusal::ZeroInPattern),
+        14 => Err(Refusal::ClassesNot256),
+        15 => Err(Refusal::ZeroClassShared),
         other => unreachable!("the library's contract has no refusal {other}"),
     }
 }
@@ -277,7 +324,7 @@ mod tests {
 
     #[test]
     fn the_number_of_a_refusal_is_read_back_as_that_refusal() {
-        for number in (1..=5).chain([10]) {
+        for number in (1..=5).chain([10, 14, 15]) {
             assert_eq!(accepted(number).map_err(Refusal::number), Err(number));
         }
         assert_eq!(accepted(0), Ok(()));

@@ -5,7 +5,7 @@ mod common;
 mod oracle;
 
 use common::{changed, fibonacci, preparation, repeated, words, Random};
-use oracle::{FORMER_SCRATCH, LONGEST_PATTERN, SCRATCH};
+use oracle::{identity, FORMER_SCRATCH, LONGEST_PATTERN, SCRATCH};
 
 /// Worked by hand from source document 003's Algorithm 7. In ababc a copied entry saves a
 /// comparison; the last word is source document 000's.
@@ -31,12 +31,13 @@ fn most(m: usize) -> u32 {
 fn check_cost(bytes: &[u8]) -> u32 {
     let m = bytes.len();
     let case = bytes.escape_ascii();
-    let compared = preparation(bytes).compared;
-    let (by_method, hmax) = oracle::fast_method(bytes);
+    let classes = identity();
+    let compared = preparation(bytes, &classes).compared;
+    let (by_method, hmax) = oracle::fast_method(bytes, &classes);
     assert_eq!(compared, by_method, "{case}");
     assert!(compared <= most(m), "{case}: {compared} is above the most");
     for (k, &h) in hmax.iter().enumerate().skip(1) {
-        assert_eq!(h, oracle::hmax(bytes, k), "hmax({k}) of {case}");
+        assert_eq!(h, oracle::hmax(bytes, &classes, k), "hmax({k}) of {case}");
     }
     compared
 }
@@ -129,7 +130,7 @@ fn the_number_does_not_depend_on_the_scratch() {
                 let junk = (0..len).map(|_| random.number() as u16).collect();
                 let entries = (0..len).map(|_| random.below(m + 1) as u16).collect();
                 for mut scratch in [vec![0; len], junk, entries] {
-                    let again = poqewan::prepare(&bytes, &mut scratch);
+                    let again = poqewan::prepare(&bytes, &identity(), &mut scratch);
                     assert_eq!(again.map(|p| p.compared), Ok(compared), "{m}, {len}");
                 }
             }

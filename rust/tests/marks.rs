@@ -15,7 +15,7 @@ const LENGTHS: [usize; 15] = [
 fn check_marks(bytes: &[u8]) {
     let m = bytes.len();
     let pattern = prepared(bytes);
-    let tables = Tables::of(bytes);
+    let tables = Tables::of(bytes, &oracle::identity());
     let case = bytes.escape_ascii();
     for p in 0..=256 {
         let below = (0..p.min(m)).filter(|&q| tables.kmin[q].is_some()).count();

@@ -3,31 +3,13 @@
 mod common;
 mod oracle;
 
-use common::{assert_refused, changed, prepared, repeated, words, Random, Trial};
-use oracle::{Tables, FORMER_SCRATCH, LONGEST_PATTERN, SCRATCH};
-use poqewan::{Pattern, Preparation, Refusal};
+use common::{assert_refused, changed, check_value, prepared, repeated, words, Random};
+use oracle::{identity, Tables, CLASSES, FORMER_SCRATCH, LONGEST_PATTERN, SCRATCH};
+use poqewan::{Pattern, Refusal};
 
-/// Prepares a pattern, and checks the answer and the scratch. Gives the refusal, if any.
+/// Prepares a pattern with each value its own class, and checks all. Gives the refusal, if any.
 fn check_preparation(bytes: &[u8], scratch_len: usize) -> Option<Refusal> {
-    // All numbers differ and none is 0.
-    let lent: Vec<u16> = (1..=scratch_len).map(|i| i as u16).collect();
-    let mut scratch = lent.clone();
-    let answer = poqewan::prepare(bytes, &mut scratch);
-
-    let case = format!("{} bytes, scratch of {scratch_len}", bytes.len());
-    let refusal = oracle::preparation_refusal(bytes, scratch_len);
-    match refusal {
-        Some(why) => assert_eq!(answer, Err(why), "{case}"),
-        None => {
-            let expected = Preparation {
-                compared: oracle::fast_method(bytes).0,
-                pattern: Tables::of(bytes).pattern(),
-            };
-            assert_eq!(answer, Ok(expected), "{case}");
-        }
-    }
-    assert_eq!(scratch, oracle::scratch_after(bytes, &lent), "{case}");
-    refusal
+    common::check_preparation(bytes, &identity(), scratch_len)
 }
 
 #[test]
@@ -78,7 +60,7 @@ fn a_scratch_of_every_length() {
 fn a_scratch_of_771_keeps_its_last_257_numbers() {
     for bytes in shortest_and_longest() {
         let mut scratch = [0xA5A5; FORMER_SCRATCH];
-        assert!(poqewan::prepare(&bytes, &mut scratch).is_ok());
+        assert!(poqewan::prepare(&bytes, &identity(), &mut scratch).is_ok());
         assert_eq!(scratch[..SCRATCH], [0; SCRATCH]);
         assert_eq!(scratch[SCRATCH..], [0xA5A5; LONGEST_PATTERN + 1]);
     }
@@ -131,7 +113,7 @@ fn a_value_over_bytes_that_hold_0_is_false() {
         &changed(&[b'a'; 256], 255, 0),
         &changed(&repeated(b"ab", 256), 0, 0),
     ] {
-        let value = Tables::of(word).pattern();
+        let value = Tables::of(word, &identity()).pattern();
         assert_refused(&value, b"", Refusal::FalsePattern);
         assert_refused(&value, word, Refusal::FalsePattern);
     }
@@ -139,8 +121,7 @@ fn a_value_over_bytes_that_hold_0_is_false() {
     // aba's tables are those of any word of that shape.
     let mut value = prepared(b"aba");
     value.bytes[1] = b'c';
-    check_value(&value);
-    assert!(oracle::tables_if_true(&value).is_some());
+    assert!(check_value(&value));
     value.bytes[1] = 0;
     assert_refused(&value, b"a\0a", Refusal::FalsePattern);
 }
@@ -150,45 +131,38 @@ fn a_byte_0_past_the_length_is_no_matter() {
     for len in [1, 2, 64, 255] {
         let pattern = prepared(&repeated(b"ab", len));
         assert_eq!(pattern.bytes[len], 0);
-        check_value(&pattern);
-        assert!(oracle::tables_if_true(&pattern).is_some());
+        assert!(check_value(&pattern));
     }
 }
 
 #[test]
 fn the_constants_are_the_edges() {
     assert_eq!(poqewan::LONGEST_PATTERN, LONGEST_PATTERN);
+    assert_eq!(poqewan::CLASSES, CLASSES);
     assert_eq!(poqewan::SCRATCH, SCRATCH);
     let longest = [b'a'; LONGEST_PATTERN + 1];
+    let classes = identity();
     let mut scratch = [0; SCRATCH];
-    assert!(poqewan::prepare(&longest[1..], &mut scratch).is_ok());
+    assert!(poqewan::prepare(&longest[1..], &classes, &mut scratch).is_ok());
     assert_eq!(
-        poqewan::prepare(&longest, &mut scratch),
+        poqewan::prepare(&longest, &classes, &mut scratch),
         Err(Refusal::LongPattern)
     );
     assert_eq!(
-        poqewan::prepare(b"a", &mut scratch[1..]),
+        poqewan::prepare(b"a", &classes[1..], &mut scratch),
+        Err(Refusal::ClassesNot256)
+    );
+    assert_eq!(
+        poqewan::prepare(b"a", &classes, &mut scratch[1..]),
         Err(Refusal::ShortScratch)
     );
 }
 
-/// Both searches must do as the oracle says of this value: refuse it, or search with it.
-fn check_value(value: &Pattern) {
-    match oracle::tables_if_true(value) {
-        None => assert_refused(value, b"abaababaabaab", Refusal::FalsePattern),
-        Some(tables) => {
-            let mut trial = Trial::of(&tables.bytes);
-            assert_eq!(trial.pattern(), value);
-            trial.check_to_the_end(&repeated(&tables.bytes, 2 * value.len + 1));
-        }
-    }
-}
-
 /// Checks a value with each field, each entry of a field and each mark changed in turn. A changed
-/// byte can give another true pattern.
+/// byte or class can give another true pattern.
 fn check_each_change(bytes: &[u8]) {
     let pattern = prepared(bytes);
-    check_value(&pattern);
+    assert!(check_value(&pattern));
 
     let m = bytes.len();
     let most = LONGEST_PATTERN;
@@ -209,6 +183,7 @@ fn check_each_change(bytes: &[u8]) {
         check_value(&Pattern { noholes, ..pattern });
     }
     check_each_entry(&pattern, u8::MAX, |pattern| &mut pattern.bytes);
+    check_each_entry(&pattern, u8::MAX, |pattern| &mut pattern.classes);
     check_each_entry(&pattern, u8::MAX, |pattern| &mut pattern.order);
     check_each_entry(&pattern, u16::MAX, |pattern| &mut pattern.shift);
     check_each_entry(&pattern, u16::MAX, |pattern| &mut pattern.next);
@@ -272,8 +247,8 @@ fn each_change_of_short_patterns() {
 fn a_changed_byte_that_gives_another_true_pattern() {
     let mut changed = prepared(b"aabaa");
     changed.bytes[2] = b'c';
-    assert_eq!(changed, Tables::of(b"aacaa").pattern());
-    check_value(&changed);
+    assert_eq!(changed, Tables::of(b"aacaa", &identity()).pattern());
+    assert!(check_value(&changed));
 }
 
 #[test]
@@ -292,7 +267,7 @@ fn each_change_of_patterns_of_255_bytes() {
 fn each_change_of_patterns_of_256_bytes() {
     check_each_change(&repeated(b"aabaab", 256));
     let marked = Random::new(34).word(b"ab", 256);
-    let marks = Tables::of(&marked).pattern().marks;
+    let marks = Tables::of(&marked, &identity()).pattern().marks;
     assert!(!marks.contains(&0), "marks in all four words");
     check_each_change(&marked);
 }
@@ -332,6 +307,7 @@ fn values_of_random_junk() {
             len: random.number() as usize,
             noholes: random.number() as usize,
             bytes: [(); LONGEST_PATTERN].map(|()| random.number() as u8),
+            classes: [(); CLASSES].map(|()| random.number() as u8),
             order: [(); LONGEST_PATTERN].map(|()| random.number() as u8),
             shift: [(); LONGEST_PATTERN + 1].map(|()| random.number() as u16),
             next: [(); LONGEST_PATTERN + 1].map(|()| random.number() as u16),
@@ -353,10 +329,11 @@ fn true_patterns_with_several_entries_changed() {
         let len = random.below(40) + 1;
         let mut changed = prepared(&random.word(b"ab", len));
         for _ in 0..=random.below(3) {
-            match random.below(4) {
+            match random.below(5) {
                 0 => changed.bytes[random.below(len)] ^= 3,
-                1 => changed.order.swap(random.below(len), random.below(len)),
-                2 => changed.shift.swap(random.below(len), random.below(len)),
+                1 => changed.classes[usize::from(b'a') + random.below(4)] ^= 3,
+                2 => changed.order.swap(random.below(len), random.below(len)),
+                3 => changed.shift.swap(random.below(len), random.below(len)),
                 _ => changed.next[random.below(len)] ^= 1,
             }
         }

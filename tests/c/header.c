@@ -5,9 +5,11 @@ uint64_t charge_of(const uint8_t *bytes, size_t m, const uint8_t *text, size_t n
 
 uint64_t charge_of(const uint8_t *bytes, size_t m, const uint8_t *text, size_t n)
 {
+    uint8_t classes[POQEWAN_CLASSES];
     uint16_t scratch[POQEWAN_SCRATCH];
     uint32_t positions[8192];
-    poqewan_preparation p = poqewan_prepare(bytes, m, scratch, POQEWAN_SCRATCH);
+    poqewan_identity(classes, POQEWAN_CLASSES);
+    poqewan_preparation p = poqewan_prepare(bytes, m, classes, POQEWAN_CLASSES, scratch, POQEWAN_SCRATCH);
     if (p.refusal != 0)
         return 0;
     poqewan_report r = poqewan_colussi(p.pattern, text, n, UINT64_MAX, positions, 8192);

@@ -14,18 +14,30 @@
 /* The sizes, as the documents have them. */
 _Static_assert(POQEWAN_LONGEST_PATTERN == 256, "the longest pattern");
 _Static_assert(POQEWAN_LONGEST_TEXT == 16777216, "the longest text");
+_Static_assert(POQEWAN_CLASSES == 256, "the number of classes");
 _Static_assert(POQEWAN_SCRATCH == 514, "the least scratch");
 
+/* The numbers of the refusals that the documents name. */
+_Static_assert(POQEWAN_NO_PATTERN == 1, "no pattern");
+_Static_assert(POQEWAN_LONG_PATTERN == 2, "long pattern");
+_Static_assert(POQEWAN_SHORT_SCRATCH == 3, "short scratch");
+_Static_assert(POQEWAN_FALSE_PATTERN == 4, "false pattern");
+_Static_assert(POQEWAN_LONG_TEXT == 5, "long text");
+_Static_assert(POQEWAN_ZERO_IN_PATTERN == 10, "zero in pattern");
+_Static_assert(POQEWAN_CLASSES_NOT_256 == 14, "classes not 256");
+_Static_assert(POQEWAN_ZERO_CLASS_SHARED == 15, "zero's class shared");
+
 /* The layout that the archive was built with. */
-_Static_assert(sizeof(poqewan_pattern) == 1592, "poqewan_pattern");
+_Static_assert(sizeof(poqewan_pattern) == 1848, "poqewan_pattern");
 _Static_assert(offsetof(poqewan_pattern, len) == 0, "len");
 _Static_assert(offsetof(poqewan_pattern, noholes) == 8, "noholes");
 _Static_assert(offsetof(poqewan_pattern, bytes) == 16, "bytes");
-_Static_assert(offsetof(poqewan_pattern, order) == 272, "order");
-_Static_assert(offsetof(poqewan_pattern, shift) == 528, "shift");
-_Static_assert(offsetof(poqewan_pattern, next) == 1042, "next");
-_Static_assert(offsetof(poqewan_pattern, marks) == 1560, "marks");
-_Static_assert(sizeof(poqewan_preparation) == 1600, "poqewan_preparation");
+_Static_assert(offsetof(poqewan_pattern, classes) == 272, "classes");
+_Static_assert(offsetof(poqewan_pattern, order) == 528, "order");
+_Static_assert(offsetof(poqewan_pattern, shift) == 784, "shift");
+_Static_assert(offsetof(poqewan_pattern, next) == 1298, "next");
+_Static_assert(offsetof(poqewan_pattern, marks) == 1816, "marks");
+_Static_assert(sizeof(poqewan_preparation) == 1856, "poqewan_preparation");
 _Static_assert(offsetof(poqewan_preparation, refusal) == 0, "refusal");
 _Static_assert(offsetof(poqewan_preparation, compared) == 4, "compared");
 _Static_assert(offsetof(poqewan_preparation, pattern) == 8, "pattern");
@@ -43,6 +55,18 @@ _Static_assert(offsetof(poqewan_report, written) == 24, "written");
 /* What lists and scratches hold before a call. */
 #define UNWRITTEN UINT32_C(0xA5A5A5A5)
 #define UNTOUCHED UINT16_C(0xA5A5)
+
+/* Each value its own class; small and capital letters in one class, with c in b's and each other value in its own. */
+static uint8_t own[POQEWAN_CLASSES], joined[POQEWAN_CLASSES];
+
+static void fill_classes(void)
+{
+    for (int v = 0; v < POQEWAN_CLASSES; v++) {
+        own[v] = (uint8_t)v;
+        joined[v] = (uint8_t)('A' <= v && v <= 'Z' ? v - 'A' + 'a' : v);
+    }
+    joined['c'] = joined['C'] = 'b';
+}
 
 static unsigned long checks, failed;
 
@@ -152,6 +176,7 @@ static bool is_zero(const poqewan_pattern *pattern)
     static const poqewan_pattern zero;
     return pattern->len == 0 && pattern->noholes == 0 &&
            memcmp(pattern->bytes, zero.bytes, sizeof zero.bytes) == 0 &&
+           memcmp(pattern->classes, zero.classes, sizeof zero.classes) == 0 &&
            memcmp(pattern->order, zero.order, sizeof zero.order) == 0 &&
            memcmp(pattern->shift, zero.shift, sizeof zero.shift) == 0 &&
            memcmp(pattern->next, zero.next, sizeof zero.next) == 0 &&
@@ -159,15 +184,19 @@ static bool is_zero(const poqewan_pattern *pattern)
 }
 
 /* Prepares a pattern and checks the refusal, or the scratch that success leaves. */
-static poqewan_preparation prepare(const void *bytes, size_t len, size_t scratch_len, uint32_t refusal)
+static poqewan_preparation prepare_by(const uint8_t *classes, size_t classes_len, const void *bytes, size_t len,
+                                      size_t scratch_len, uint32_t refusal)
 {
-    uint8_t *lent = lend_bytes(bytes, len);
+    uint8_t *lent = lend_bytes(bytes, len), *lent_classes = lend_bytes(classes, classes_len);
     uint16_t *scratch = lend_scratch(scratch_len);
-    poqewan_preparation p = poqewan_prepare(lent, len, scratch, scratch_len);
+    poqewan_preparation p = poqewan_prepare(lent, len, lent_classes, classes_len, scratch, scratch_len);
     CHECK(p.refusal == refusal);
+    CHECK(len == 0 || memcmp(lent, bytes, len) == 0);
+    CHECK(classes_len == 0 || memcmp(lent_classes, classes, classes_len) == 0);
     if (refusal == 0) {
         CHECK(p.pattern.len == len);
         CHECK(memcmp(p.pattern.bytes, bytes, len) == 0);
+        CHECK(memcmp(p.pattern.classes, classes, sizeof p.pattern.classes) == 0);
         CHECK(scratch_is(scratch, 0, POQEWAN_SCRATCH, 0));
         CHECK(scratch_is(scratch, POQEWAN_SCRATCH, scratch_len, UNTOUCHED));
     } else {
@@ -176,13 +205,24 @@ static poqewan_preparation prepare(const void *bytes, size_t len, size_t scratch
         CHECK(scratch_is(scratch, 0, scratch_len, UNTOUCHED));
     }
     free(scratch);
+    free(lent_classes);
     free(lent);
     return p;
 }
 
-static poqewan_pattern prepared(const char *letters)
+static poqewan_preparation prepare(const void *bytes, size_t len, size_t scratch_len, uint32_t refusal)
 {
-    return prepare(letters, strlen(letters), POQEWAN_SCRATCH, 0).pattern;
+    return prepare_by(own, POQEWAN_CLASSES, bytes, len, scratch_len, refusal);
+}
+
+static poqewan_pattern prepared_by(const uint8_t *classes, const char *word)
+{
+    return prepare_by(classes, POQEWAN_CLASSES, word, strlen(word), POQEWAN_SCRATCH, 0).pattern;
+}
+
+static poqewan_pattern prepared(const char *word)
+{
+    return prepared_by(own, word);
 }
 
 /* Both searches must refuse with this number and leave the list as it is. */
@@ -224,43 +264,87 @@ static const struct record {
     {"aba", "aba", 0, LONG_LIST, POQEWAN_SPENT, 0, 0, 0, {0}, NOT_GIVEN},
 };
 
+/* By the joined classes: records of document 01 in small and capital letters, and records worked by hand from its rules
+   with the tables below. */
+static const struct record joined_records[] = {
+    {"aB", "AaaA", UINT64_MAX, LONG_LIST, POQEWAN_DONE, 0, 3, 0, {0}, 6},
+    {"abA", "aBAba", UINT64_MAX, LONG_LIST, POQEWAN_DONE, 0, 5, 2, {0, 2}, NOT_GIVEN},
+    {"Aba", "abABa", 4, LONG_LIST, POQEWAN_SPENT, 2, 4, 1, {0}, NOT_GIVEN},
+    {"aBa", "ABAba", UINT64_MAX, 1, POQEWAN_FULL, 2, 5, 1, {0}, NOT_GIVEN},
+    {"AabaA", "aABAaAabAa", UINT64_MAX, LONG_LIST, POQEWAN_DONE, 0, 12, 2, {0, 5}, 12},
+    {"bca", "bbacabca", UINT64_MAX, LONG_LIST, POQEWAN_DONE, 0, 8, 2, {0, 5}, 8},
+    {"abAB", "aBAbAba", UINT64_MAX, LONG_LIST, POQEWAN_DONE, 0, 6, 2, {0, 2}, 6},
+    {"abAB", "aBAbAba", 5, LONG_LIST, POQEWAN_SPENT, 2, 5, 1, {0}, NOT_GIVEN},
+};
+
+static void check_record(const struct record *r, const uint8_t *classes)
+{
+    poqewan_pattern pattern = prepared_by(classes, r->pattern);
+    size_t n = strlen(r->text);
+    uint8_t *text = lend_bytes(r->text, n);
+    uint32_t *list = lend_list(r->list_len);
+
+    poqewan_report got = poqewan_colussi(pattern, text, n, r->cap, list, r->list_len);
+    CHECK(is_report(got, r->ending, r->window, r->count, r->written));
+    CHECK(memcmp(list, r->positions, r->written * sizeof *list) == 0);
+    CHECK(unwritten(list, r->written, r->list_len));
+    if (r->kmp_count != NOT_GIVEN) {
+        got = poqewan_kmp(pattern, text, n, r->cap, list, r->list_len);
+        CHECK(is_report(got, POQEWAN_DONE, 0, r->kmp_count, r->written));
+        CHECK(memcmp(list, r->positions, r->written * sizeof *list) == 0);
+    }
+    free(list);
+    free(text);
+}
+
 static void test_worked_records(void)
 {
-    for (size_t i = 0; i < sizeof records / sizeof *records; i++) {
-        const struct record *r = &records[i];
-        poqewan_pattern pattern = prepared(r->pattern);
-        size_t n = strlen(r->text);
-        uint8_t *text = lend_bytes(r->text, n);
-        uint32_t *list = lend_list(r->list_len);
-
-        poqewan_report got = poqewan_colussi(pattern, text, n, r->cap, list, r->list_len);
-        CHECK(is_report(got, r->ending, r->window, r->count, r->written));
-        CHECK(memcmp(list, r->positions, r->written * sizeof *list) == 0);
-        CHECK(unwritten(list, r->written, r->list_len));
-        if (r->kmp_count != NOT_GIVEN) {
-            got = poqewan_kmp(pattern, text, n, r->cap, list, r->list_len);
-            CHECK(is_report(got, POQEWAN_DONE, 0, r->kmp_count, r->written));
-        }
-        free(list);
-        free(text);
-    }
+    for (size_t i = 0; i < sizeof records / sizeof *records; i++)
+        check_record(&records[i], own);
+    for (size_t i = 0; i < sizeof joined_records / sizeof *joined_records; i++)
+        check_record(&joined_records[i], joined);
 }
+
+/* Document 01's tables for aba and aabaa: of these words and, by the joined classes, of such as have others by themselves.
+   Then, worked by hand from its definitions: with joined classes bca is bba and abAB is abab. */
+static const struct tables {
+    const uint8_t *classes;
+    const char *pattern;
+    size_t noholes;
+    uint8_t order[5];
+    uint16_t shift[6], next[6];
+    uint64_t marks;
+    uint32_t compared;
+} tables[] = {
+    {own, "aba", 1, {1, 2, 0}, {1, 3, 2, 2}, {0}, 0x02, 2},
+    {own, "aabaa", 1, {2, 4, 3, 1, 0}, {1, 5, 4, 3, 3, 3}, {0}, 0x04, 5},
+    {joined, "abA", 1, {1, 2, 0}, {1, 3, 2, 2}, {0}, 0x02, 2},
+    {joined, "aAbAa", 1, {2, 4, 3, 1, 0}, {1, 5, 4, 3, 3, 3}, {0}, 0x04, 5},
+    {own, "bca", 2, {1, 2, 0}, {1, 2, 3, 3}, {0}, 0x06, 2},
+    {joined, "bca", 1, {2, 1, 0}, {1, 3, 3, 3}, {0}, 0x04, 3},
+    {own, "abAB", 3, {1, 2, 3, 0}, {1, 2, 3, 4, 4}, {0}, 0x0E, 3},
+    {joined, "abAB", 2, {1, 3, 2, 0}, {1, 3, 4, 2, 2}, {0, 0, 0, 1, 1}, 0x0A, 3},
+};
 
 static void test_worked_tables(void)
 {
-    static const uint8_t aba_order[] = {1, 2, 0}, aabaa_order[] = {2, 4, 3, 1, 0};
-    static const uint16_t aba_shift[] = {1, 3, 2, 2}, aabaa_shift[] = {1, 5, 4, 3, 3, 3};
-    static const poqewan_pattern zero;
-
-    poqewan_pattern pattern = prepared("aba");
-    CHECK(memcmp(pattern.order, aba_order, sizeof aba_order) == 0);
-    CHECK(memcmp(pattern.shift, aba_shift, sizeof aba_shift) == 0);
-    CHECK(memcmp(pattern.next, zero.next, sizeof zero.next) == 0);
-
-    pattern = prepared("aabaa");
-    CHECK(memcmp(pattern.order, aabaa_order, sizeof aabaa_order) == 0);
-    CHECK(memcmp(pattern.shift, aabaa_shift, sizeof aabaa_shift) == 0);
-    CHECK(memcmp(pattern.next, zero.next, sizeof zero.next) == 0);
+    for (size_t i = 0; i < sizeof tables / sizeof *tables; i++) {
+        const struct tables *t = &tables[i];
+        size_t m = strlen(t->pattern);
+        poqewan_preparation p = prepare_by(t->classes, POQEWAN_CLASSES, t->pattern, m, POQEWAN_SCRATCH, 0);
+        poqewan_pattern expected;
+        memset(&expected, 0, sizeof expected);
+        memcpy(expected.order, t->order, sizeof t->order);
+        memcpy(expected.shift, t->shift, sizeof t->shift);
+        memcpy(expected.next, t->next, sizeof t->next);
+        CHECK(p.compared == t->compared);
+        CHECK(p.pattern.noholes == t->noholes);
+        CHECK(memcmp(p.pattern.order, expected.order, sizeof expected.order) == 0);
+        CHECK(memcmp(p.pattern.shift, expected.shift, sizeof expected.shift) == 0);
+        CHECK(memcmp(p.pattern.next, expected.next, sizeof expected.next) == 0);
+        CHECK(p.pattern.marks[0] == t->marks && p.pattern.marks[1] == 0 && p.pattern.marks[2] == 0 &&
+              p.pattern.marks[3] == 0);
+    }
 }
 
 /* No byte, so that a look at it is no comparison of two bytes. */
@@ -274,13 +358,13 @@ static bool same(const int *w, size_t i, size_t j, uint32_t *compared)
 }
 
 /* Source document 003's Algorithm 7, line by line. Gives its comparisons of two pattern bytes. */
-static uint32_t compared_by_method(const uint8_t *bytes, size_t m)
+static uint32_t compared_by_method(const uint8_t *classes, const uint8_t *bytes, size_t m)
 {
     int w[POQEWAN_LONGEST_PATTERN + 1];
     size_t hmax[POQEWAN_LONGEST_PATTERN + 1], k = 1, i = k;
     uint32_t compared = 0;
     for (size_t p = 0; p < m; p++)
-        w[p] = bytes[p];
+        w[p] = classes[bytes[p]];
     w[m] = SENTINEL;
     do {
         while (same(w, i, i - k, &compared))
@@ -302,7 +386,7 @@ static uint32_t compared_by_method(const uint8_t *bytes, size_t m)
 static uint32_t check_cost(const uint8_t *bytes, size_t m)
 {
     uint32_t compared = prepare(bytes, m, POQEWAN_SCRATCH, 0).compared;
-    CHECK(compared == compared_by_method(bytes, m));
+    CHECK(compared == compared_by_method(own, bytes, m));
     CHECK(compared <= (m == 1 ? 0 : 2 * m - 3));
     return compared;
 }
@@ -419,6 +503,76 @@ static void test_zero_in_a_value(void)
     free(text);
 }
 
+/* Entry v is v mod 256, and nothing is written after the last. */
+static void test_identity(void)
+{
+    static const size_t lengths[] = {0, 1, 2, 128, AROUND(POQEWAN_CLASSES), 600, 100000};
+    static const size_t spares[] = {0, 1, 300};
+    for (size_t i = 0; i < sizeof lengths / sizeof *lengths; i++)
+        for (size_t j = 0; j < sizeof spares / sizeof *spares; j++) {
+            size_t len = lengths[i], spare = spares[j];
+            uint8_t *classes = lend(len + spare);
+            for (size_t v = 0; v < len + spare; v++)
+                classes[v] = (uint8_t)~v;
+            poqewan_identity(classes, len);
+            bool filled = true, kept = true;
+            for (size_t v = 0; v < len; v++)
+                filled = filled && classes[v] == v % 256;
+            for (size_t v = len; v < len + spare; v++)
+                kept = kept && classes[v] == (uint8_t)~v;
+            CHECK(filled);
+            CHECK(kept);
+            free(classes);
+        }
+    poqewan_identity(NULL, 0);
+}
+
+/* Classes of a number other than 256, and such as share that of 0, by themselves and with each other condition, in the
+   order of the tests: 1, 2, 10, 14, 15, 3. */
+static void test_refused_classes(void)
+{
+    static const size_t numbers[] = {0, 1, 2, 128, AROUND(POQEWAN_CLASSES), 512, 1000};
+    static const size_t scratches[] = {0, AROUND(POQEWAN_SCRATCH)};
+    static const size_t patterns[] = {0, 1, 3, AROUND(POQEWAN_LONGEST_PATTERN)};
+    uint8_t classes[1000], bytes[POQEWAN_LONGEST_PATTERN + 1];
+    for (size_t i = 0; i < sizeof numbers / sizeof *numbers; i++)
+        for (size_t j = 0; j < sizeof scratches / sizeof *scratches; j++)
+            for (size_t k = 0; k < sizeof patterns / sizeof *patterns; k++)
+                for (int which = 0; which < 4; which++) {
+                    size_t number = numbers[i], scratch_len = scratches[j], m = patterns[k];
+                    bool zero = which % 2 == 1 && m > 0, shared = which / 2 == 1;
+                    random_letters(bytes, m, 2);
+                    if (zero)
+                        bytes[m - 1] = 0;
+                    poqewan_identity(classes, number);
+                    if (shared)
+                        memset(classes, 7, number);
+                    uint32_t refusal = m == 0                          ? POQEWAN_NO_PATTERN
+                                       : m > POQEWAN_LONGEST_PATTERN   ? POQEWAN_LONG_PATTERN
+                                       : zero                          ? POQEWAN_ZERO_IN_PATTERN
+                                       : number != POQEWAN_CLASSES     ? POQEWAN_CLASSES_NOT_256
+                                       : shared                        ? POQEWAN_ZERO_CLASS_SHARED
+                                       : scratch_len < POQEWAN_SCRATCH ? POQEWAN_SHORT_SCRATCH
+                                                                       : 0;
+                    prepare_by(classes, number, bytes, m, scratch_len, refusal);
+                }
+}
+
+/* Each value with the class of 0, and 0 with the class of each; and the two with each other's, which is no refusal. */
+static void test_class_of_zero(void)
+{
+    uint8_t classes[POQEWAN_CLASSES];
+    for (int v = 1; v < POQEWAN_CLASSES; v++) {
+        memcpy(classes, own, sizeof classes);
+        classes[v] = 0;
+        prepare_by(classes, POQEWAN_CLASSES, "aba", 3, POQEWAN_SCRATCH, POQEWAN_ZERO_CLASS_SHARED);
+        classes[0] = (uint8_t)v;
+        prepare_by(classes, POQEWAN_CLASSES, "aba", 3, POQEWAN_SCRATCH, 0);
+        classes[v] = (uint8_t)v;
+        prepare_by(classes, POQEWAN_CLASSES, "aba", 3, POQEWAN_SCRATCH, POQEWAN_ZERO_CLASS_SHARED);
+    }
+}
+
 /* With a number of 0 the pointer is not followed. */
 static void test_null(void)
 {
@@ -426,9 +580,11 @@ static void test_null(void)
     uint32_t *list = lend_list(1);
     poqewan_pattern pattern = prepared("a");
 
-    CHECK(poqewan_prepare(NULL, 0, NULL, 0).refusal == POQEWAN_NO_PATTERN);
-    CHECK(poqewan_prepare(a, 1, NULL, 0).refusal == POQEWAN_SHORT_SCRATCH);
-    CHECK(poqewan_prepare((const uint8_t *)"", 1, NULL, 0).refusal == POQEWAN_ZERO_IN_PATTERN);
+    CHECK(poqewan_prepare(NULL, 0, NULL, 0, NULL, 0).refusal == POQEWAN_NO_PATTERN);
+    CHECK(poqewan_prepare(NULL, 0, own, POQEWAN_CLASSES, NULL, 0).refusal == POQEWAN_NO_PATTERN);
+    CHECK(poqewan_prepare(a, 1, NULL, 0, NULL, 0).refusal == POQEWAN_CLASSES_NOT_256);
+    CHECK(poqewan_prepare(a, 1, own, POQEWAN_CLASSES, NULL, 0).refusal == POQEWAN_SHORT_SCRATCH);
+    CHECK(poqewan_prepare((const uint8_t *)"", 1, NULL, 0, NULL, 0).refusal == POQEWAN_ZERO_IN_PATTERN);
     for (int s = 0; s < SEARCHES; s++) {
         CHECK(is_report(searches[s](pattern, NULL, 0, 0, NULL, 0), POQEWAN_DONE, 0, 0, 0));
         CHECK(is_report(searches[s](pattern, NULL, 0, 0, list, 1), POQEWAN_DONE, 0, 0, 0));
@@ -440,7 +596,8 @@ static void test_null(void)
     free(a);
 }
 
-/* A bit changed in any byte of a pattern but its own m bytes makes it false; in the padding it changes nothing. */
+/* A bit changed in any byte of a pattern but its own m bytes and its classes makes it false; in the padding it changes
+   nothing. */
 static void test_changed_patterns(void)
 {
     static const char *const patterns[] = {"a", "aba", "aabaabaab"};
@@ -449,6 +606,8 @@ static void test_changed_patterns(void)
         poqewan_pattern pattern = prepared(patterns[i]), changed;
         for (size_t at = 0; at < sizeof pattern; at++) {
             if (offsetof(poqewan_pattern, bytes) <= at && at < offsetof(poqewan_pattern, bytes) + pattern.len)
+                continue;
+            if (offsetof(poqewan_pattern, classes) <= at && at < offsetof(poqewan_pattern, order))
                 continue;
             memcpy(&changed, &pattern, sizeof pattern);
             ((uint8_t *)&changed)[at] ^= (uint8_t)(1u << at % 8);
@@ -492,19 +651,24 @@ static void test_junk(size_t rounds)
     free(text);
 }
 
-/* The naive search. */
-static bool occurs(const uint8_t *pattern, size_t m, const uint8_t *text, size_t n, size_t b)
+/* The naive search, by the pattern's classes. */
+static bool occurs(const poqewan_pattern *pattern, const uint8_t *text, size_t n, size_t b)
 {
-    return b + m <= n && memcmp(pattern, text + b, m) == 0;
+    if (b + pattern->len > n)
+        return false;
+    for (size_t p = 0; p < pattern->len; p++)
+        if (pattern->classes[pattern->bytes[p]] != pattern->classes[text[b + p]])
+            return false;
+    return true;
 }
 
 /* Whether the list holds exactly the occurrences below a window. */
-static bool lists_occurrences(const uint32_t *list, size_t written, const uint8_t *pattern, size_t m,
-                              const uint8_t *text, size_t n, size_t window)
+static bool lists_occurrences(const uint32_t *list, size_t written, const poqewan_pattern *pattern, const uint8_t *text,
+                              size_t n, size_t window)
 {
     size_t found = 0;
     for (size_t b = 0; b < window; b++)
-        if (occurs(pattern, m, text, n, b)) {
+        if (occurs(pattern, text, n, b)) {
             if (found == written || list[found] != b)
                 return false;
             found++;
@@ -526,7 +690,6 @@ static bool under_ceiling(int search, poqewan_report report, size_t m, size_t n)
 static poqewan_report check_search(int search, const poqewan_pattern *pattern, const uint8_t *text, size_t n,
                                    uint64_t cap, size_t list_len)
 {
-    const uint8_t *bytes = pattern->bytes;
     size_t m = pattern->len;
     uint32_t *list = lend_list(list_len);
     poqewan_report r = searches[search](*pattern, text, n, cap, list, list_len);
@@ -534,7 +697,7 @@ static poqewan_report check_search(int search, const poqewan_pattern *pattern, c
     CHECK(r.refusal == 0);
     CHECK(r.ending == POQEWAN_DONE || r.ending == POQEWAN_SPENT || r.ending == POQEWAN_FULL);
     CHECK(r.written <= list_len && unwritten(list, r.written, list_len));
-    CHECK(lists_occurrences(list, r.written, bytes, m, text, n, r.ending == POQEWAN_DONE ? n : r.window));
+    CHECK(lists_occurrences(list, r.written, pattern, text, n, r.ending == POQEWAN_DONE ? n : r.window));
     CHECK(r.count <= cap);
     CHECK(under_ceiling(search, r, m, n));
     if (r.ending == POQEWAN_DONE)
@@ -542,7 +705,7 @@ static poqewan_report check_search(int search, const poqewan_pattern *pattern, c
     if (r.ending == POQEWAN_SPENT)
         CHECK(r.count == cap && r.window + m <= n);
     if (r.ending == POQEWAN_FULL)
-        CHECK(r.written == list_len && occurs(bytes, m, text, n, r.window));
+        CHECK(r.written == list_len && occurs(pattern, text, n, r.window));
     free(list);
     return r;
 }
@@ -596,6 +759,48 @@ static void test_zero_in_text(void)
     free(text);
 }
 
+static bool same_tables(const poqewan_pattern *one, const poqewan_pattern *other)
+{
+    return one->noholes == other->noholes && memcmp(one->order, other->order, sizeof one->order) == 0 &&
+           memcmp(one->shift, other->shift, sizeof one->shift) == 0 &&
+           memcmp(one->next, other->next, sizeof one->next) == 0 &&
+           memcmp(one->marks, other->marks, sizeof one->marks) == 0;
+}
+
+/* A pattern with one class changed is true exactly where preparation by the changed classes gives its tables. */
+static void test_changed_classes(void)
+{
+    static const char *const patterns[] = {"a", "aba", "abAB", "bcacAb"};
+    const uint8_t *const both[] = {own, joined};
+    uint8_t *text = lend_bytes("aabaabCabaab", 12);
+    size_t accepted = 0, refused = 0;
+    for (size_t i = 0; i < sizeof patterns / sizeof *patterns; i++)
+        for (size_t j = 0; j < 2; j++)
+            for (size_t v = 0; v < POQEWAN_CLASSES; v++) {
+                poqewan_pattern changed = prepared_by(both[j], patterns[i]);
+                const uint8_t others[] = {changed.classes[0], 'a', 'b', (uint8_t)(changed.classes[v] ^ 1u << v % 8)};
+                uint8_t before = changed.classes[v];
+                for (size_t k = 0; k < sizeof others; k++) {
+                    changed.classes[v] = others[k];
+                    if (others[k] == before)
+                        continue;
+                    uint16_t scratch[POQEWAN_SCRATCH];
+                    poqewan_preparation p = poqewan_prepare(changed.bytes, changed.len, changed.classes,
+                                                            POQEWAN_CLASSES, scratch, POQEWAN_SCRATCH);
+                    if (p.refusal == 0 && same_tables(&p.pattern, &changed)) {
+                        for (int s = 0; s < SEARCHES; s++)
+                            check_search(s, &changed, text, 12, UINT64_MAX, 12);
+                        accepted++;
+                    } else {
+                        check_refused(&changed, text, 12, POQEWAN_FALSE_PATTERN);
+                        refused++;
+                    }
+                }
+            }
+    CHECK(accepted > 0 && refused > 0);
+    free(text);
+}
+
 /* Small searches with limits drawn by lot; now and then the longest pattern. */
 static void test_random_searches(size_t rounds)
 {
@@ -616,6 +821,43 @@ static void test_random_searches(size_t rounds)
         }
         free(text);
     }
+}
+
+/* The same with one to three classes beside that of 0, for patterns of any bytes but 0 in texts of any. The cost is the
+   method's. With other names for the classes, a name each, the tables, the cost and the reports stay. */
+static void test_random_classes(size_t rounds)
+{
+    uint8_t bytes[POQEWAN_LONGEST_PATTERN], classes[POQEWAN_CLASSES], renamed[POQEWAN_CLASSES];
+    size_t found = 0;
+    for (size_t round = 0; round < rounds; round++) {
+        size_t others = 1 + random_below(3), of_zero = random_below(256);
+        for (size_t v = 0; v < POQEWAN_CLASSES; v++) {
+            classes[v] = (uint8_t)(of_zero + (v == 0 ? 0 : 1 + random_below(others)));
+            renamed[v] = (uint8_t)(classes[v] * 5u + 3u);
+        }
+        size_t m = round % 50 == 0 ? POQEWAN_LONGEST_PATTERN : 1 + random_below(6);
+        for (size_t p = 0; p < m; p++)
+            bytes[p] = (uint8_t)(1 + random_below(255));
+        poqewan_preparation p = prepare_by(classes, POQEWAN_CLASSES, bytes, m, POQEWAN_SCRATCH, 0);
+        poqewan_preparation q = prepare_by(renamed, POQEWAN_CLASSES, bytes, m, POQEWAN_SCRATCH, 0);
+        CHECK(p.compared == compared_by_method(classes, bytes, m) && p.compared == q.compared);
+        CHECK(same_tables(&p.pattern, &q.pattern));
+
+        size_t n = random_below(m + 60);
+        uint8_t *text = lend(n);
+        for (size_t b = 0; b < n; b++)
+            text[b] = (uint8_t)random_below(256);
+        for (int s = 0; s < SEARCHES; s++) {
+            poqewan_report whole = check_search(s, &p.pattern, text, n, UINT64_MAX, n + 1);
+            CHECK(whole.ending == POQEWAN_DONE);
+            poqewan_report again = check_search(s, &q.pattern, text, n, UINT64_MAX, n + 1);
+            CHECK(is_report(again, POQEWAN_DONE, 0, whole.count, whole.written));
+            check_search(s, &p.pattern, text, n, random_below(whole.count + 2), random_below(whole.written + 2));
+            found += whole.written;
+        }
+        free(text);
+    }
+    CHECK(found > 0);
 }
 
 /* In a text of the greatest length, an occurrence in the last window is found. */
@@ -666,6 +908,7 @@ static void test_long_text(void)
 int main(int argc, char **argv)
 {
     bool quick = argc > 1 && strcmp(argv[1], "quick") == 0;
+    fill_classes();
     test_worked_records();
     test_worked_tables();
     test_worked_costs();
@@ -675,13 +918,18 @@ int main(int argc, char **argv)
     test_preparation();
     test_zero_in_pattern();
     test_zero_in_a_value();
+    test_identity();
+    test_refused_classes();
+    test_class_of_zero();
     test_null();
     test_changed_patterns();
     test_false_lengths();
     test_junk(quick ? 100 : 1000);
     test_limits();
     test_zero_in_text();
+    test_changed_classes();
     test_random_searches(quick ? 200 : 2000);
+    test_random_classes(quick ? 200 : 2000);
     test_longest_text();
     if (!quick)
         test_longest_list();

@@ -10,7 +10,7 @@ use lib.ListN.{length, getD, drop, drop-of-length-le}
 use lib.Seq.{drop-cons}
 use borrow.Author.Tests.{eq-eqb, eqb-true}
 use Rattle.words.proofs.Cases.{true-or-false, both-true, not-both}
-use Rattle.checked.specs.Check.{sameList, samePattern}
+use Rattle.checked.specs.Check.{sameList, sameTables, samePattern}
 use Rattle.pattern.specs.declared.Pattern.{Pattern}
 
 -- ---- Lists
@@ -54,13 +54,14 @@ module _ {a b : List ℕ} {i : ℕ} {t : Bool} (C : Compared a b i t) where
 -- ---- Patterns
 
 pattern-self : (a : Pattern) → samePattern a a ≡ true
-unfolding samePattern
+unfolding samePattern sameTables
 pattern-self a = simp (eq-eqb (a .len) (a .len) refl, eq-eqb (a .noholes) (a .noholes) refl, same-self)
 
 pattern-is : (a b : Pattern) → samePattern a b ≡ true → a ≡ b
-unfolding samePattern
+unfolding samePattern sameTables
 pattern-is a b e =
-    let len = both-true (eqb (a .len) (b .len)) _ e in
+    let classes = both-true (sameList (a .classes) (b .classes)) _ e in
+    let len = both-true (eqb (a .len) (b .len)) _ (classes .1) in
     let noholes = both-true (eqb (a .noholes) (b .noholes)) _ (len .1) in
     let bytes = both-true (sameList (a .bytes) (b .bytes)) _ (noholes .1) in
     let order = both-true (sameList (a .order) (b .order)) _ (bytes .1) in
@@ -70,11 +71,17 @@ pattern-is a b e =
       len = eqb-true (a .len) (b .len) (len .0) i;
       noholes = eqb-true (a .noholes) (b .noholes) (noholes .0) i;
       bytes = same-is (a .bytes) (b .bytes) (bytes .0) i;
+      classes = same-is (a .classes) (b .classes) (classes .0) i;
       order = same-is (a .order) (b .order) (order .0) i;
       shift = same-is (a .shift) (b .shift) (shift .0) i;
       next = same-is (a .next) (b .next) (next .0) i;
       marks = same-is (a .marks) (b .marks) (next .1) i;
     }
+
+-- With the same classes, the others decide.
+pub tables-decide : (a b : Pattern) → b .classes ≡ a .classes → sameTables a b ≡ samePattern a b
+unfolding samePattern
+tables-decide a b e = rw (e, same-self (a .classes)) refl
 
 pub same-pattern : (a b : Pattern) → (samePattern a b ≡ true) ↔ (a ≡ b)
 same-pattern a b = (pattern-is a b, λ e. rw e (pattern-self b))

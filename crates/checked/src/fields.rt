@@ -1,8 +1,8 @@
-// Two patterns compared, field by field.
+// Two patterns compared, field by field. Their classes are not: a pattern prepared again has those that it was lent.
 use pattern::Pattern;
 ghost use mathlib.Core.Path.{_≡_};
 ghost use lib.ListN.{length};
-ghost use Rattle.checked.specs.Check.{sameList, samePattern};
+ghost use Rattle.checked.specs.Check.{sameList, sameTables};
 
 // Whether two lists are the same. The loop runs on past a difference, so that many entries are compared at once.
 fn same_bytes(a: &[u8], b: &[u8]) -> bool
@@ -44,9 +44,9 @@ fn same_marks(a: &[u64; 4], b: &[u64; 4]) -> bool
     (a[0] == b[0]) & (a[1] == b[1]) & (a[2] == b[2]) & (a[3] == b[3])
 }
 
-// Whether no field differs. The answers are joined in the order of samePattern.
-pub fn same_pattern(a: Pattern, b: Pattern) -> bool
-    ensures { λ r. ⌜ r ≡ samePattern a b ⌝ }
+// Whether no field but the classes differs. The answers are joined in the order of sameTables.
+pub fn same_tables(a: Pattern, b: Pattern) -> bool
+    ensures { λ r. ⌜ r ≡ sameTables a b ⌝ }
 {
     let marks = same_marks(&a.marks, &b.marks);
     let bytes = same_bytes(&a.bytes, &b.bytes);

@@ -8,18 +8,20 @@ use lib.Seq.{take-append-seam}
 use Rattle.admission.specs.Admitted.{longestText, admitted}
 use Rattle.admission.specs.declared.Admission.the-variants.{Admitted}
 use Rattle.admission.proofs.Admitting.{admitted-of}
+use Rattle.classes.specs.Classes.{identity}
 use Rattle.intake.specs.Sizes.{scratchSize}
 use Rattle.intake.specs.Outcomes.{Preparable}
-use Rattle.intake.proofs.Outcomes.{ready-of}
+use Rattle.intake.proofs.Outcomes.{identity-usable, ready-of}
 use Rattle.pattern.specs.Letters.{ownBytes, wordOf}
 use Rattle.pattern.specs.Built.{patternOf}
+use Rattle.pattern.specs.declared.Pattern.{Pattern}
 use Rattle.preparation.specs.Prepared.{prepared}
 use Rattle.preparation.specs.declared.Prepared.{Prepared}
 use Rattle.refusal.specs.declared.Refusal.{Refusal}
 use Rattle.preparation.proofs.Answers.{ready-answer}
 use Rattle.checked.proofs.Again.{own-bytes, prepared-again}
-use Rattle.checked.proofs.Checked.{is-prepared}
-use Rattle.pattern.proofs.Letters.{word-own, text-own}
+use Rattle.checked.proofs.Checked.{own-classes, is-prepared}
+use Rattle.pattern.proofs.Letters.{word-plain, text-plain}
 use Rattle.rules.specs.Rules.{End}
 use Rattle.rules.specs.Colussi.{colussi}
 use Rattle.rules.specs.Report.{reportOf, filled}
@@ -66,23 +68,28 @@ lines-of-found {s = s} F = rw (F .positions, F .report) (sym (lines-of-search s)
 -- ---- The search for bytes that were just prepared
 
 module _ (w t : List ℕ) (preparable : Preparable w) (fits : length t ≤ longestText)
-    {q : Prepared} (ready-made : q ≡ prepared w scratchSize) (cap : ℕ) (lent : List ℕ) where
-  pattern-is : q .pattern ≡ patternOf w
-  pattern-is = ap (λ (a : Prepared). a .pattern) (ready-made ∙ ready-answer w scratchSize (ready-of w scratchSize preparable (omega arith)))
+    {q : Prepared} (ready-made : q ≡ prepared w identity scratchSize) (cap : ℕ) (lent : List ℕ) where
+  pattern-is : q .pattern ≡ patternOf w identity
+  pattern-is =
+      ap (λ (a : Prepared). a .pattern)
+      (ready-made ∙ ready-answer w identity scratchSize (ready-of w identity scratchSize preparable identity-usable (omega arith)))
 
-  -- Its letters are the bytes.
+  -- Its letters are the bytes, and the text's are the text.
+  classes : q .pattern .classes ≡ identity
+  classes = ap (λ (p : Pattern). p .classes) pattern-is ∙ own-classes w identity
+
   letters : wordOf (q .pattern) ≡ w
-  letters = word-own (q .pattern) ∙ ap ownBytes pattern-is ∙ own-bytes w
+  letters = word-plain (q .pattern) classes ∙ ap ownBytes pattern-is ∙ own-bytes w identity
 
   let-in : admitted (q .pattern) (length t) ≡ Admitted
   let-in = admitted-of (q .pattern) (length t)
-      record { prepared = is-prepared (q .pattern) .0 (rw pattern-is (prepared-again w preparable)); fits = fits }
+      record { prepared = is-prepared (q .pattern) .0 (rw pattern-is (prepared-again w identity preparable identity-usable)); fits = fits }
 
   -- What it answers, and what it leaves in the list.
   pub prepared-runs : {a : SearchAnswer} {after : List ℕ}
       → a ≡ answerBy colussi (q .pattern) t cap (length lent) → after ≡ listBy colussi (q .pattern) t cap lent
       → (a ≡ Ran (reportOf (colussi w t cap (length lent)))) × (after ≡ filled (colussi w t cap (length lent)) lent)
   prepared-runs e l = (
-    e ∙ rw (letters, text-own (q .pattern) t) at (ran-answer colussi (q .pattern) t cap lent let-in),
-    l ∙ rw (letters, text-own (q .pattern) t) at (ran-list colussi (q .pattern) t cap lent let-in),
+    e ∙ rw (letters, text-plain (q .pattern) classes t) at (ran-answer colussi (q .pattern) t cap lent let-in),
+    l ∙ rw (letters, text-plain (q .pattern) classes t) at (ran-list colussi (q .pattern) t cap lent let-in),
   )

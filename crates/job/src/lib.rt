@@ -36,7 +36,8 @@ fn searched(bytes: &[u8], text: &[u8], out: &mut [u8]) -> usize
     ensures { λ r. ⌜ Puts (now (out .entry)) (now (out .exit)) 0 (search-lines (colussi (now (bytes .entry)) (now (text .entry)) noCap listSize)) r ⌝ }
 {
     let mut scratch = [0u16; SCRATCH];
-    let prepared = preparation::prepare(bytes, &mut scratch);
+    let classes = classes::identity_classes();
+    let prepared = preparation::prepare(bytes, &classes, &mut scratch);
     let mut positions = [0u32; LIST];
     let answer = search::colussi(prepared.pattern, text, NO_CAP, &mut positions);
     match answer {

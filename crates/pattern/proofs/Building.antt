@@ -5,14 +5,16 @@ use mathlib.Core.Logic.{⊎-elim}
 use mathlib.Core.Bool.{true, false}
 use mathlib.Core.List.{List, _++_}
 use native.Mathlib.Omega.{arith}
-use lib.Dec.{leb}
+use lib.Dec.{leb, eqb}
 use lib.ListN.{length, getD, take, drop, length-append, length-drop, List·getD-append}
 use lib.Seq.{length-take-le, getD-take, getD-append-add, drop-append-add, drop-at}
-use borrow.Author.Tests.{leb-true, le-leb, lt-leb}
+use borrow.Author.Tests.{leb-true, le-leb, lt-leb, eqb-true, eq-eqb, ne-eqb}
 use Rattle.words.specs.Numbers.{tabulate}
 use Rattle.words.specs.Tables.{noholes, kmin}
 use Rattle.words.proofs.Cases.{true-or-false, both-true}
 use Rattle.words.proofs.Tabulate.{length-tabulate, tabulate-at}
+use Rattle.classes.specs.Classes.{classCount, through}
+use Rattle.classes.proofs.Through.{length-through}
 use Rattle.intake.specs.Sizes.{longestPattern, scratchSize}
 use Rattle.hmax.specs.FastMethod.{comparisons}
 use Rattle.hmax.specs.Table.{tableAfter, HasHmax}
@@ -21,27 +23,32 @@ use Rattle.hmax.proofs.Stores.{KeptFrom, kept-same, kept-both, kept-later}
 use Rattle.hmax.proofs.Tables.{after-kept}
 use Rattle.pattern.specs.Sizes.{kminsAt}
 use Rattle.pattern.specs.Lists.{padded}
+use Rattle.pattern.proofs.Lists.{padded-full}
 use Rattle.pattern.specs.Marks.{markWord}
-use Rattle.pattern.specs.Built.{patternOf, built, unbuilt, buildable, builtFrom, kminsAfter, scratchWith}
+use Rattle.pattern.specs.Built.{patternWith, builtWith, built, unbuilt, buildable, builtFrom, kminsAfter, tablesAfter, scratchWith}
 use Rattle.pattern.specs.Internal.Scratch.{Sizes, HasKmin, HasTables}
 use Rattle.pattern.specs.Internal.Ranked.{RankedAll}
 use Rattle.pattern.specs.declared.Pattern.{Pattern}
 use Rattle.pattern.specs.declared.Built.{Built}
 use Rattle.pattern.proofs.Ranked.{places-order}
 
--- The pattern of w, field by field.
-pub fields : (w : List ℕ) {d : ℕ} {bytes orders shifts nexts marks : List ℕ}
-    → d ≡ noholes w → bytes ≡ padded longestPattern w → RankedAll w orders shifts nexts → marks ≡ tabulate 4 (markWord w)
+-- The pattern of w with the letters l, field by field.
+pub fields : (w c l : List ℕ) {d : ℕ} {bytes classes orders shifts nexts marks : List ℕ} → length c ≡ classCount
+    → d ≡ noholes l → bytes ≡ padded longestPattern w → classes ≡ padded classCount c → RankedAll l orders shifts nexts → marks ≡ tabulate 4 (markWord l)
     → _≡_ {A = Pattern}
-    (record { len = length w; noholes = d; bytes = bytes; order = orders; shift = shifts; next = nexts; marks = marks })
-    (patternOf w)
-unfolding patternOf
-fields w ed eb R em = rw (ed, eb, R .order, R .shift, R .next, em, places-order w) refl
+    (record { len = length w; noholes = d; bytes = bytes; classes = classes; order = orders; shift = shifts; next = nexts; marks = marks })
+    (patternWith w c l)
+unfolding patternWith
+fields w c l size ed eb ec R em = rw (ed, eb, ec, padded-full classCount c size, R .order, R .shift, R .next, em, places-order l) refl
 
-pub built-is : (w : List ℕ) {p : Pattern} {c : ℕ} → p ≡ patternOf w → c ≡ comparisons w
-    → _≡_ {A = Built} (record { pattern = p; compared = c }) (built w)
-unfolding built
-built-is w ep ec = rw (ep, ec) refl
+pub built-is : (w c l : List ℕ) {p : Pattern} {n : ℕ} → p ≡ patternWith w c l → n ≡ comparisons l
+    → _≡_ {A = Built} (record { pattern = p; compared = n }) (builtWith w c l)
+unfolding builtWith
+built-is w c l ep en = rw (ep, en) refl
+
+-- Read through classes, the bytes are no more and no fewer.
+pub letters-sizes : (w c s : List ℕ) → Sizes w s → Sizes (through c w) s
+letters-sizes w c s S = let same = length-through c w in record { some = omega (arith, S .some); short = omega (arith, S .short); room = S .room }
 
 -- ---- The scratch
 
@@ -100,36 +107,37 @@ module _ (w s : List ℕ) (S : Sizes w s) {t : List ℕ} (e : t ≡ kminsAfter w
 -- ---- The answer
 
 -- Where the lengths allow it a pattern is built,
-module _ (w : List ℕ) (n : ℕ) (some : 1 ≤ length w) (short : length w ≤ longestPattern) (room : scratchSize ≤ n) where
-  buildable-is : buildable (length w) n ≡ true
+module _ (w c : List ℕ) (n : ℕ) (some : 1 ≤ length w) (short : length w ≤ longestPattern) (size : length c ≡ classCount) (room : scratchSize ≤ n) where
+  buildable-is : buildable (length w) (length c) n ≡ true
   unfolding buildable
-  buildable-is = rw (le-leb 1 (length w) some, le-leb (length w) longestPattern short, le-leb scratchSize n room) refl
+  buildable-is =
+      rw (le-leb 1 (length w) some, le-leb (length w) longestPattern short, eq-eqb (length c) classCount size, le-leb scratchSize n room) refl
 
-  pub build-answer : builtFrom w n ≡ built w
+  pub build-answer : builtFrom w c n ≡ built w c
   unfolding builtFrom
   build-answer = rw (buildable-is, builtFrom) refl
 
-module _ (w s : List ℕ) where
+module _ (w c s : List ℕ) where
   -- What `build` ensures.
   abbrev pub Ensured : List ℕ → Built → Type 0
-  Ensured t r = (r ≡ builtFrom w (length s)) × (t ≡ scratchWith w s)
+  Ensured t r = (r ≡ builtFrom w c (length s)) × (t ≡ scratchWith w c s)
 
-  after-build : Sizes w s → scratchWith w s ≡ kminsAfter w (tableAfter w s)
+  after-build : Sizes w s → length c ≡ classCount → scratchWith w c s ≡ tablesAfter (through c w) s
   unfolding scratchWith
-  after-build S = rw (buildable-is w (length s) (S .some) (S .short) (S .room), scratchWith) refl
+  after-build S size = rw (buildable-is w c (length s) (S .some) (S .short) size (S .room), scratchWith) refl
 
-  pub built-from : {t : List ℕ} {r : Built} → Sizes w s → r ≡ built w → t ≡ kminsAfter w (tableAfter w s) → Ensured t r
-  built-from S answer after = (
-    answer ∙ sym (build-answer w (length s) (S .some) (S .short) (S .room)),
-    after ∙ sym (after-build S),
+  pub built-from : {t : List ℕ} {r : Built} → Sizes w s → length c ≡ classCount → r ≡ built w c → t ≡ tablesAfter (through c w) s → Ensured t r
+  built-from S size answer after = (
+    answer ∙ sym (build-answer w c (length s) (S .some) (S .short) size (S .room)),
+    after ∙ sym (after-build S size),
   )
 
   -- and not where one of them does not.
-  after-none : buildable (length w) (length s) ≡ false → scratchWith w s ≡ s
+  after-none : buildable (length w) (length c) (length s) ≡ false → scratchWith w c s ≡ s
   unfolding scratchWith
   after-none fails = rw (fails, scratchWith) refl
 
-  unbuilt-from : {r : Built} → buildable (length w) (length s) ≡ false → r ≡ unbuilt → Ensured s r
+  unbuilt-from : {r : Built} → buildable (length w) (length c) (length s) ≡ false → r ≡ unbuilt → Ensured s r
   unfolding builtFrom
   unbuilt-from fails answer = (answer ∙ rw (fails, builtFrom) refl, sym (after-none fails))
 
@@ -142,23 +150,33 @@ module _ (w s : List ℕ) where
     unfolding buildable
     too-many some l = unbuilt-from (rw (le-leb 1 (length w) some, lt-leb (length w) longestPattern l) refl) answer
 
-    pub too-small : 1 ≤ length w → length w ≤ longestPattern → length s < scratchSize → Ensured s r
+    pub not-256 : 1 ≤ length w → length w ≤ longestPattern → (length c ≡ classCount → ⊥) → Ensured s r
     unfolding buildable
-    too-small some short l =
-        unbuilt-from (rw (le-leb 1 (length w) some, le-leb (length w) longestPattern short, lt-leb scratchSize (length s) l) refl) answer
+    not-256 some short ne =
+        unbuilt-from (rw (le-leb 1 (length w) some, le-leb (length w) longestPattern short, ne-eqb (length c) classCount ne) refl) answer
+
+    pub too-small : 1 ≤ length w → length w ≤ longestPattern → length c ≡ classCount → length s < scratchSize → Ensured s r
+    unfolding buildable
+    too-small some short size l =
+        unbuilt-from
+        (rw (le-leb 1 (length w) some, le-leb (length w) longestPattern short, eq-eqb (length c) classCount size, lt-leb scratchSize (length s) l) refl)
+        answer
 
   -- Past its first scratchSize numbers, a scratch is always kept.
-  pub build-kept : {t : List ℕ} → t ≡ scratchWith w s → KeptFrom scratchSize s t
-  unfolding buildable
+  pub build-kept : {t : List ℕ} → t ≡ scratchWith w c s → KeptFrom scratchSize s t
+  unfolding buildable tablesAfter
   build-kept e = rw e (⊎-elim
-      (λ (yes : buildable (length w) (length s) ≡ true).
+      (λ (yes : buildable (length w) (length c) (length s) ≡ true).
       let tests = both-true (leb 1 (length w)) _ yes in
       let more = both-true (leb (length w) longestPattern) _ (tests .1) in
+      let last = both-true (eqb (length c) classCount) _ (more .1) in
       let S : Sizes w s =
-      record { some = leb-true _ _ (tests .0); short = leb-true _ _ (more .0); room = leb-true _ _ (more .1) } in
-      let first = after-kept w s (room w s S) refl in
-      let then = kmins-kept w (tableAfter w s) (hmax-sizes w s S refl) refl in
-      let short = S .short in
-      rw (after-build S) (kept-both (kept-later (omega arith) first) (kept-later (omega arith) then)))
+      record { some = leb-true _ _ (tests .0); short = leb-true _ _ (more .0); room = leb-true _ _ (last .1) } in
+      let L = letters-sizes w c s S in
+      let l = through c w in
+      let first = after-kept l s (room l s L) refl in
+      let then = kmins-kept l (tableAfter l s) (hmax-sizes l s L refl) refl in
+      let short = L .short in
+      rw (after-build S (eqb-true _ _ (last .0))) (kept-both (kept-later (omega arith) first) (kept-later (omega arith) then)))
       (λ fails. rw (after-none fails) (kept-same s))
-      (true-or-false (buildable (length w) (length s))))
+      (true-or-false (buildable (length w) (length c) (length s))))

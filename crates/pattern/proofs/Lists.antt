@@ -2,11 +2,11 @@
 use Prim.Native.Nat.{ℕ, suc, _+_, _-_, _≤_, _<_, min}
 use mathlib.Core.Path.{_≡_, refl, sym, _∙_}
 use mathlib.Core.Logic.{⊎-elim}
-use mathlib.Core.List.{List, [], _∷_, _++_, append-assoc}
+use mathlib.Core.List.{List, [], _∷_, _++_, append-assoc, append-nil}
 use native.Mathlib.Omega.{arith}
 use native.Mathlib.Numerals.{add-one}
 use lib.ListN.{length, getD, take, set, replicate, length-append, length-replicate, getD-replicate, List·getD-append}
-use lib.Seq.{set-append-seam, take-all, take-length, getD-append-add, ext-getD}
+use lib.Seq.{set-append-seam, take-append-seam, take-all, take-length, getD-append-add, ext-getD}
 use Rattle.words.specs.Numbers.{tabulate}
 use Rattle.words.proofs.Cases.{less-or}
 use Rattle.words.proofs.Tabulate.{length-tabulate, tabulate-at}
@@ -47,6 +47,15 @@ next-stored n f i j v e s h q =
 pub length-padded : (n : ℕ) (l : List ℕ) → length l ≤ n → length (padded n l) ≡ n
 unfolding padded
 length-padded n l h = length-append l (replicate (n - length l) 0) ∙ omega (arith, length-replicate {A = ℕ} (n - length l) 0)
+
+pub padded-first : (n : ℕ) (l : List ℕ) → take (length l) (padded n l) ≡ l
+unfolding padded
+padded-first n l = take-append-seam l (replicate (n - length l) 0)
+
+-- A full list needs no zeros.
+pub padded-full : (n : ℕ) (l : List ℕ) → length l ≡ n → padded n l ≡ l
+unfolding padded
+padded-full n l size = let none : n - length l ≡ 0 = omega arith in rw none (append-nil l)
 
 pub padded-at : (n : ℕ) (l : List ℕ) (i : ℕ) → i < length l → getD (padded n l) i 0 ≡ getD l i 0
 unfolding padded

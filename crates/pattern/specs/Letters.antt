@@ -1,7 +1,9 @@
--- The letters that a search compares: the pattern's, and the text's as this pattern reads it. Contracts of searches cite these names.
+-- The letters that a search compares: the classes of the pattern's bytes, and of the text's as this pattern reads it. Contracts of searches cite
+-- these names.
 use Prim.Native.Nat.{ℕ}
 use mathlib.Core.List.{List}
 use lib.ListN.{take}
+use Rattle.classes.specs.Classes.{through}
 use Rattle.pattern.specs.declared.Pattern.{Pattern}
 
 -- A pattern's own bytes: as many of the 256 as its length says.
@@ -9,7 +11,9 @@ abbrev pub ownBytes : Pattern → List ℕ
 ownBytes p = take (p .len) (p .bytes)
 
 unfoldable pub wordOf : Pattern → List ℕ
-wordOf p = ownBytes p
+unfolding through
+wordOf p = through (p .classes) (ownBytes p)
 
 unfoldable pub textOf : Pattern → List ℕ → List ℕ
-textOf p t = t
+unfolding through
+textOf p t = through (p .classes) t

@@ -6,6 +6,7 @@ mod noholes;
 mod sizes;
 mod whole;
 
+pub use classes::CLASSES;
 pub use entries::fill;
 pub use intake::LONGEST_PATTERN;
 pub use intake::SCRATCH;
@@ -14,7 +15,7 @@ ghost use mathlib.Core.Path.{_≡_};
 ghost use lib.ListN.{length};
 ghost use Rattle.pattern.specs.Built.{zeroPattern, unbuilt, builtFrom, scratchWith};
 
-// Document 01's card: the pattern and its tables. The entries past those defined are 0.
+// Document 01's card: the pattern, its classes and its tables. The entries past those defined are 0.
 #[repr(C)]
 pub struct Pattern {
     // m, from 1 to 256
@@ -23,6 +24,8 @@ pub struct Pattern {
     pub noholes: usize,
     // m bytes
     pub bytes: [u8; LONGEST_PATTERN],
+    // of each byte value
+    pub classes: [u8; CLASSES],
     // the place of each rank: m entries
     pub order: [u8; LONGEST_PATTERN],
     // of each rank, and of rank m: m + 1 entries each
@@ -46,6 +49,7 @@ pub fn zero_pattern() -> Pattern
         len: 0,
         noholes: 0,
         bytes: [0u8; LONGEST_PATTERN],
+        classes: [0u8; CLASSES],
         order: [0u8; LONGEST_PATTERN],
         shift: [0u16; RANKS],
         next: [0u16; RANKS],
@@ -62,11 +66,11 @@ fn not_built() -> Built
     }
 }
 
-// Builds the pattern of 1 to LONGEST_PATTERN bytes in a scratch of at least SCRATCH numbers. The scratch then holds two of its tables, and is
-// unchanged elsewhere. With other lengths no pattern is built, and the scratch is unchanged.
-pub fn build(bytes: &[u8], scratch: &mut [u16]) -> Built
-    ensures answer { λ r. ⌜ r ≡ builtFrom (now (bytes .entry)) (length (now (scratch .entry))) ⌝ }
-    ensures scratched { λ r. ⌜ now (scratch .exit) ≡ scratchWith (now (bytes .entry)) (now (scratch .entry)) ⌝ }
+// Builds the pattern of 1 to LONGEST_PATTERN bytes through CLASSES classes in a scratch of at least SCRATCH numbers. The scratch then holds two
+// of its tables, and is unchanged elsewhere. With other lengths no pattern is built, and the scratch is unchanged.
+pub fn build<'a>(bytes: &'a [u8], classes: &'a [u8], scratch: &mut [u16]) -> Built
+    ensures answer { λ r. ⌜ r ≡ builtFrom (now (bytes .entry)) (now (classes .entry)) (length (now (scratch .entry))) ⌝ }
+    ensures scratched { λ r. ⌜ now (scratch .exit) ≡ scratchWith (now (bytes .entry)) (now (classes .entry)) (now (scratch .entry)) ⌝ }
 {
     let m = bytes.len();
     if m < 1 {
@@ -75,8 +79,11 @@ pub fn build(bytes: &[u8], scratch: &mut [u16]) -> Built
     if LONGEST_PATTERN < m {
         return not_built();
     }
+    if classes.len() != CLASSES {
+        return not_built();
+    }
     if scratch.len() < SCRATCH {
         return not_built();
     }
-    whole::whole(bytes, scratch)
+    whole::whole(bytes, classes, scratch)
 }

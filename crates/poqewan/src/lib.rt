@@ -10,15 +10,16 @@ ghost use mathlib.Core.Logic.{_↔_};
 ghost use Prim.Native.Nat.{_+_, _*_, _≤_, _<_};
 ghost use lib.ListN.{length};
 ghost use Rattle.charge.specs.Charged.{charged};
+ghost use Rattle.classes.specs.Classes.{identity, identityIn};
 ghost use Rattle.intake.specs.Sizes.{scratchSize};
-ghost use Rattle.intake.specs.Outcomes.{Preparable};
+ghost use Rattle.intake.specs.Outcomes.{Preparable, Usable};
 ghost use Rattle.hmax.specs.FastMethod.{FewCompared};
-ghost use Rattle.pattern.specs.Letters.{wordOf, textOf};
-ghost use Rattle.preparation.specs.Prepared.{prepared, scratchAfter, Cleared};
+ghost use Rattle.pattern.specs.Letters.{ownBytes, wordOf, textOf};
+ghost use Rattle.preparation.specs.Prepared.{prepared, plainPrepared, scratchAfter, plainScratch, Cleared};
 ghost use Rattle.rules.specs.Colussi.{colussi};
 ghost use Rattle.rules.specs.Kmp.{kmp};
-ghost use Rattle.search.specs.Answer.{answerBy, listBy};
-ghost use Rattle.search.specs.Promise.{Located, UnderCeiling, UnderKmpCeiling, AsColussi, NoZeroCovered};
+ghost use Rattle.search.specs.Answer.{answerBy, listBy, plainAnswerBy, plainListBy};
+ghost use Rattle.search.specs.Promise.{Located, ListedBy, UnderCeiling, UnderKmpCeiling, AsColussi, NoZeroCovered};
 ghost use Rattle.poqewan.specs.Carried.{outcomeNumber, carriedPreparation, endingNumber, endingWindow, carriedReport, carried, reportIn};
 
 // The number of a refusal, and then all else is 0; or 0, how many pairs of the pattern's letters were compared to build hmax, and the pattern.
@@ -97,18 +98,31 @@ fn carry(answer: SearchAnswer) -> SearchReport
     }
 }
 
-// Prepares a pattern for search. Refused, in this order: no byte (1), more bytes than the longest pattern has (2), a byte 0 among them (10), a
-// scratch of too few numbers (3). After success the scratch begins with that many zeros and the rest is unchanged; after a refusal all of it
-// is.
+// Each entry v becomes v mod 256: of 256 entries, the classes that give each value itself.
 #[no_mangle]
-pub extern "C" fn poqewan_prepare(bytes: &[u8], scratch: &mut [u16]) -> Preparation
-    ensures answer { λ r. ⌜ r ≡ carriedPreparation (prepared (now (bytes .entry)) (length (now (scratch .entry)))) ⌝ }
-    ensures scratched { λ r. ⌜ now (scratch .exit) ≡ scratchAfter (now (bytes .entry)) (now (scratch .entry)) ⌝ }
-    ensures taken { λ r. ⌜ ((r .refusal ≡ 0) ↔ (Preparable (now (bytes .entry)) × (scratchSize ≤ length (now (scratch .entry))))) ⌝ }
+pub extern "C" fn poqewan_identity(classes: &mut [u8])
+    ensures filled { λ r. ⌜ now (classes .exit) ≡ identityIn (length (now (classes .entry))) ⌝ }
+{
+    classes::fill_identity(classes)
+}
+
+// Prepares a pattern for search, whose bytes count as equal when their classes are. Refused, in this order: no byte (1), more bytes than the
+// longest pattern has (2), a byte 0 among them (10), not 256 classes (14), a value other than 0 with the class of 0 (15), a scratch of too few
+// numbers (3). After success the scratch begins with that many zeros and the rest is unchanged; after a refusal all of it is.
+#[no_mangle]
+pub extern "C" fn poqewan_prepare<'a>(
+    bytes: &'a [u8],
+    classes: &'a [u8],
+    scratch: &mut [u16],
+) -> Preparation
+    ensures answer { λ r. ⌜ r ≡ carriedPreparation (prepared (now (bytes .entry)) (now (classes .entry)) (length (now (scratch .entry)))) ⌝ }
+    ensures scratched { λ r. ⌜ now (scratch .exit) ≡ scratchAfter (now (bytes .entry)) (now (classes .entry)) (now (scratch .entry)) ⌝ }
+    ensures taken { λ r. ⌜ ((r .refusal ≡ 0) ↔ (Preparable (now (bytes .entry)) × Usable (now (classes .entry)) × (scratchSize ≤ length (now (scratch .entry))))) ⌝ }
     ensures cleared { λ r. ⌜ (r .refusal ≡ 0 → Cleared (now (scratch .entry)) (now (scratch .exit))) ⌝ }
     ensures few { λ r. ⌜ FewCompared (length (now (bytes .entry))) (r .compared) ⌝ }
+    ensures plain { λ r. ⌜ (now (classes .entry) ≡ identity → (r ≡ carriedPreparation (plainPrepared (now (bytes .entry)) (length (now (scratch .entry))))) × (now (scratch .exit) ≡ plainScratch (now (bytes .entry)) (now (scratch .entry)))) ⌝ }
 {
-    let got = preparation::prepare(bytes, scratch);
+    let got = preparation::prepare(bytes, classes, scratch);
     let pattern = got.pattern;
     let outcome = got.outcome;
     let compared = got.compared as u32;
@@ -122,7 +136,7 @@ pub extern "C" fn poqewan_prepare(bytes: &[u8], scratch: &mut [u16]) -> Preparat
 
 // Searches a text in Colussi's order, with at most `cap` comparisons, and fills the list from its start with the positions where the pattern
 // occurs, overlaps included. The entries after them are unchanged. Refused, in this order, with the list unchanged: a pattern that is not
-// what preparation gives for its own length and bytes (4), a text that is longer than the longest (5).
+// what preparation gives for its own length, bytes and classes (4), a text that is longer than the longest (5).
 #[no_mangle]
 pub extern "C" fn poqewan_colussi(
     pattern: Pattern,
@@ -133,8 +147,10 @@ pub extern "C" fn poqewan_colussi(
     ensures answer { λ r. ⌜ r ≡ carried (answerBy colussi pattern (now (text .entry)) cap (length (now (positions .entry)))) ⌝ }
     ensures list { λ r. ⌜ now (positions .exit) ≡ listBy colussi pattern (now (text .entry)) cap (now (positions .entry)) ⌝ }
     ensures accurate { λ r. ⌜ (r .refusal ≡ 0 → Located colussi (wordOf pattern) (textOf pattern (now (text .entry))) cap (now (positions .exit)) (reportIn r)) ⌝ }
+    ensures classed { λ r. ⌜ (r .refusal ≡ 0 → ListedBy (pattern .classes) (ownBytes pattern) (now (text .entry)) (now (positions .exit)) (reportIn r)) ⌝ }
     ensures ceiling { λ r. ⌜ (r .refusal ≡ 0 → UnderCeiling (length (wordOf pattern)) (length (now (text .entry))) (reportIn r)) ⌝ }
     ensures zeros { λ r. ⌜ (r .refusal ≡ 0 → NoZeroCovered (length (wordOf pattern)) (now (text .entry)) (now (positions .exit)) (reportIn r)) ⌝ }
+    ensures plain { λ r. ⌜ (pattern .classes ≡ identity → (r ≡ carried (plainAnswerBy colussi pattern (now (text .entry)) cap (length (now (positions .entry))))) × (now (positions .exit) ≡ plainListBy colussi pattern (now (text .entry)) cap (now (positions .entry)))) ⌝ }
 {
     carry(search::colussi(pattern, text, cap, positions))
 }
@@ -151,9 +167,11 @@ pub extern "C" fn poqewan_kmp(
     ensures answer { λ r. ⌜ r ≡ carried (answerBy kmp pattern (now (text .entry)) cap (length (now (positions .entry)))) ⌝ }
     ensures list { λ r. ⌜ now (positions .exit) ≡ listBy kmp pattern (now (text .entry)) cap (now (positions .entry)) ⌝ }
     ensures accurate { λ r. ⌜ (r .refusal ≡ 0 → Located kmp (wordOf pattern) (textOf pattern (now (text .entry))) cap (now (positions .exit)) (reportIn r)) ⌝ }
+    ensures classed { λ r. ⌜ (r .refusal ≡ 0 → ListedBy (pattern .classes) (ownBytes pattern) (now (text .entry)) (now (positions .exit)) (reportIn r)) ⌝ }
     ensures ceiling { λ r. ⌜ (r .refusal ≡ 0 → UnderKmpCeiling (length (wordOf pattern)) (length (now (text .entry))) (reportIn r)) ⌝ }
     ensures same { λ r. ⌜ (r .refusal ≡ 0 → AsColussi (wordOf pattern) (textOf pattern (now (text .entry))) (now (positions .exit)) (reportIn r)) ⌝ }
     ensures zeros { λ r. ⌜ (r .refusal ≡ 0 → NoZeroCovered (length (wordOf pattern)) (now (text .entry)) (now (positions .exit)) (reportIn r)) ⌝ }
+    ensures plain { λ r. ⌜ (pattern .classes ≡ identity → (r ≡ carried (plainAnswerBy kmp pattern (now (text .entry)) cap (length (now (positions .entry))))) × (now (positions .exit) ≡ plainListBy kmp pattern (now (text .entry)) cap (now (positions .entry)))) ⌝ }
 {
     carry(search::kmp(pattern, text, cap, positions))
 }

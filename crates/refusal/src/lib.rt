@@ -18,6 +18,10 @@ pub enum Refusal {
     ShortInput,
     // C-13: the motif holds byte 0
     ZeroInPattern,
+    // C-19: the chart hasn't 256 bytes
+    ClassesNot256,
+    // C-19: another value shares the class of 0
+    ZeroClassShared,
 }
 
 impl Refusal {
@@ -33,6 +37,8 @@ impl Refusal {
             Refusal::LongText => 5,
             Refusal::ShortInput => 6,
             Refusal::ZeroInPattern => 10,
+            Refusal::ClassesNot256 => 14,
+            Refusal::ZeroClassShared => 15,
         }
     }
 }

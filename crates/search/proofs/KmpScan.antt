@@ -98,13 +98,13 @@ by-one w some = record {
   early = omega arith;
 }
 
--- The first m bytes, with a table of their shifts.
-module _ (bytes shifts : List ℕ) (m : ℕ) (sizes : (1 ≤ m) × (m ≤ 256) × (m ≤ length bytes)) (K : KmpShifts (take m bytes) shifts) where
-  word : length (take m bytes) ≡ m
-  word = length-take-le m bytes (sizes .2)
+-- The first m letters, with a table of their shifts.
+module _ (letters shifts : List ℕ) (m : ℕ) (sizes : (1 ≤ m) × (m ≤ 256) × (m ≤ length letters)) (K : KmpShifts (take m letters) shifts) where
+  word : length (take m letters) ≡ m
+  word = length-take-le m letters (sizes .2)
 
-  R : Ranges (kmp-plan (take m bytes))
-  R = kmp-ranges (take m bytes) (omega (arith, word, sizes .0))
+  R : Ranges (kmp-plan (take m letters))
+  R = kmp-ranges (take m letters) (omega (arith, word, sizes .0))
 
   -- Every shift moves the window on.
   pub shift-on : (r s : ℕ) → r ≤ m → s ≡ getD shifts r 0 → 1 ≤ s
@@ -112,59 +112,59 @@ module _ (bytes shifts : List ℕ) (m : ℕ) (sizes : (1 ≤ m) × (m ≤ 256) �
 
   -- A turn of the scan, in window b with i letters matched.
   module _ {text : List ℕ} {cap : ℕ} {before after : List ℕ} {b i c k : ℕ}
-      (F : Scans (kmp-plan (take m bytes)) (take m bytes) text cap before after b i 0 c k) where
+      (F : Scans (kmp-plan (take m letters)) (take m letters) text cap before after b i 0 c k) where
     -- The window is left at r, which is j in the code, by the shift s that the table has there.
-    left-by : (later : List ℕ) (r j s c' k' : ℕ) → r ≤ length (take m bytes) → j ≡ r → s ≡ getD shifts j 0
-        → Scans (kmp-plan (take m bytes)) (take m bytes) text cap before later (b + kmp-shift (take m bytes) r) (r - kmp-shift (take m bytes) r)
-        (edge-after (kmp-plan (take m bytes)) r b 0) c' k'
-        → Scans (kmp-plan (take m bytes)) (take m bytes) text cap before later (b + s) (j - s) 0 c' k'
-    left-by later r j s c' k' l at read G = rw (read, at, K .shift-at r l) (rw (edge-stays (take m bytes) r b 0 l) at G)
+    left-by : (later : List ℕ) (r j s c' k' : ℕ) → r ≤ length (take m letters) → j ≡ r → s ≡ getD shifts j 0
+        → Scans (kmp-plan (take m letters)) (take m letters) text cap before later (b + kmp-shift (take m letters) r) (r - kmp-shift (take m letters) r)
+        (edge-after (kmp-plan (take m letters)) r b 0) c' k'
+        → Scans (kmp-plan (take m letters)) (take m letters) text cap before later (b + s) (j - s) 0 c' k'
+    left-by later r j s c' k' l at read G = rw (read, at, K .shift-at r l) (rw (edge-stays (take m letters) r b 0 l) at G)
 
     pub scan-done : length text < b + m
-        → Reported (kmp (take m bytes) text cap (length before)) before after record { ending = Done; count = c; written = k }
+        → Reported (kmp (take m letters) text cap (length before)) before after record { ending = Done; count = c; written = k }
     unfolding kmp
     scan-done l = scans-done _ _ text cap before R F (omega (arith, word))
 
     -- Past the windows that miss at rank 0.
-    pub scan-ahead : {x last b' i' c' : ℕ} → Ahead text x 0 last cap b c b' i' c' → last + m ≡ length text → i ≡ 0 → x ≡ getD bytes 0 0
-        → Scans (kmp-plan (take m bytes)) (take m bytes) text cap before after b' i' 0 c' k
+    pub scan-ahead : {x last b' i' c' : ℕ} → Ahead text x 0 last cap b c b' i' c' → last + m ≡ length text → i ≡ 0 → x ≡ getD letters 0 0
+        → Scans (kmp-plan (take m letters)) (take m letters) text cap before after b' i' 0 c' k
     scan-ahead A ends first is =
-        let G : Scans (kmp-plan (take m bytes)) (take m bytes) text cap before after b 0 0 c k = rw first at F in
-        scans-ahead (kmp-plan (take m bytes)) (take m bytes) text (by-one (take m bytes) (R .some)) A (omega (arith, word)) refl
-        (getD-take m bytes 0 0 (sizes .0) ∙ sym is) 0 (omega arith) R G
+        let G : Scans (kmp-plan (take m letters)) (take m letters) text cap before after b 0 0 c k = rw first at F in
+        scans-ahead (kmp-plan (take m letters)) (take m letters) text (by-one (take m letters) (R .some)) A (omega (arith, word)) refl
+        (getD-take m letters 0 0 (sizes .0) ∙ sym is) 0 (omega arith) R G
 
     module _ (fits : b + m ≤ length text) where
-      inside : b + length (take m bytes) ≤ length text
+      inside : b + length (take m letters) ≤ length text
       inside = omega (arith, word)
 
       -- A comparison is due.
       module _ (rank : i < m) where
-        due : Due (kmp-plan (take m bytes)) b i 0
+        due : Due (kmp-plan (take m letters)) b i 0
         due = record { rank = omega (arith, word); beyond = omega arith }
 
         pub scan-spent : c ≡ cap
-            → Reported (kmp (take m bytes) text cap (length before)) before after record { ending = Spent b; count = c; written = k }
+            → Reported (kmp (take m letters) text cap (length before)) before after record { ending = Spent b; count = c; written = k }
         unfolding kmp
         scan-spent l = scans-spent _ _ text cap before R F inside due l
 
         module _ (more : c ≡ cap → ⊥) where
-          pub scan-matched : getD bytes i 0 ≡ getD text (b + i) 0
-              → Scans (kmp-plan (take m bytes)) (take m bytes) text cap before after b (i + 1) 0 (c + 1) k
-          scan-matched q = rw (add-one i, add-one c) (scans-matched _ _ text cap before R F inside due more (getD-take m bytes i 0 rank ∙ q))
+          pub scan-matched : getD letters i 0 ≡ getD text (b + i) 0
+              → Scans (kmp-plan (take m letters)) (take m letters) text cap before after b (i + 1) 0 (c + 1) k
+          scan-matched q = rw (add-one i, add-one c) (scans-matched _ _ text cap before R F inside due more (getD-take m letters i 0 rank ∙ q))
 
-          pub scan-missed : (getD bytes i 0 ≡ getD text (b + i) 0 → ⊥) → (s : ℕ) → s ≡ getD shifts i 0
-              → Scans (kmp-plan (take m bytes)) (take m bytes) text cap before after (b + s) (i - s) 0 (c + 1) k
-          scan-missed q s read = left-by after i i s (c + 1) k (rank-upto F) refl read (rw (add-one c) (scans-missed _ _ text cap before R F inside due more (λ a. q (sym (getD-take m bytes i 0 rank) ∙ a))))
+          pub scan-missed : (getD letters i 0 ≡ getD text (b + i) 0 → ⊥) → (s : ℕ) → s ≡ getD shifts i 0
+              → Scans (kmp-plan (take m letters)) (take m letters) text cap before after (b + s) (i - s) 0 (c + 1) k
+          scan-missed q s read = left-by after i i s (c + 1) k (rank-upto F) refl read (rw (add-one c) (scans-missed _ _ text cap before R F inside due more (λ a. q (sym (getD-take m letters i 0 rank) ∙ a))))
 
       -- The pattern occurs.
       module _ (rank : m ≤ i) where
         pub scan-full : k ≡ length after
-            → Reported (kmp (take m bytes) text cap (length before)) before after record { ending = Full b; count = c; written = k }
+            → Reported (kmp (take m letters) text cap (length before)) before after record { ending = Full b; count = c; written = k }
         unfolding kmp
         scan-full l = scans-full _ _ text cap before R F inside (inl (omega (arith, word))) l
 
         -- The window is stored, as v.
         pub scan-listed : (k ≡ length after → ⊥) → {v : ℕ} → v ≡ b → (s : ℕ) → s ≡ getD shifts m 0
-            → Scans (kmp-plan (take m bytes)) (take m bytes) text cap before (set after k v) (b + s) (m - s) 0 c (k + 1)
-        scan-listed l is s read = rw is (left-by (set after k b) (length (take m bytes)) m s c (k + 1) (omega arith) (sym word) read
+            → Scans (kmp-plan (take m letters)) (take m letters) text cap before (set after k v) (b + s) (m - s) 0 c (k + 1)
+        scan-listed l is s read = rw is (left-by (set after k b) (length (take m letters)) m s c (k + 1) (omega arith) (sym word) read
             (scans-listed _ _ text cap before R F inside (inl (omega (arith, word))) l))

@@ -1,14 +1,15 @@
 -- The promises in plain terms, as laws of what a search answers. Assumes nothing.
-use Prim.Native.Nat.{ℕ, _≤_}
+use Prim.Native.Nat.{ℕ, _≤_, _<_}
 use mathlib.Core.Path.{_≡_, sym, _∙_}
 use mathlib.Core.List.{List, _++_}
 use native.Mathlib.Omega.{arith}
 use lib.ListN.{length, getD, take, drop, length-append, length-drop, List·getD-append}
 use lib.Seq.{take-append-seam}
 use Rattle.admission.specs.Admitted.{IsAdmitted}
-use Rattle.pattern.specs.Letters.{wordOf, textOf}
+use Rattle.classes.specs.Classes.{identity, OccursBy}
+use Rattle.pattern.specs.Letters.{ownBytes, wordOf, textOf}
 use Rattle.pattern.specs.declared.Pattern.{Pattern}
-use Rattle.pattern.proofs.Letters.{word-own, text-own, length-text}
+use Rattle.pattern.proofs.Letters.{length-text}
 use Rattle.checked.specs.Check.{IsPrepared}
 use Rattle.checked.proofs.Reading.{fields-of}
 use Rattle.rules.specs.Rules.{End, Search}
@@ -19,15 +20,15 @@ use Rattle.rules.specs.Promise.{CutOff}
 use Rattle.rules.specs.Report.{reportOf, filled}
 use Rattle.rules.specs.declared.Ending.{Ending}
 use Rattle.rules.specs.declared.Ending.the-variants.{Done, Spent, Full}
-use Rattle.rules.proofs.Occurs.{covers-none-lacked}
 use Rattle.rules.proofs.Method.{Finds}
 use Rattle.rules.proofs.ColussiMethod.{colussi-finds, colussi-ceiling}
 use Rattle.rules.proofs.KmpMethod.{kmp-finds, kmp-ceiling}
 use Rattle.rules.proofs.SamePositions.{same-positions}
-use Rattle.search.specs.Answer.{answerBy, listBy}
-use Rattle.search.specs.Promise.{IfRan, Located, UnderCeiling, UnderKmpCeiling, AsColussi, NoZeroCovered}
+use Rattle.search.specs.Answer.{answerBy, listBy, plainAnswerBy, plainListBy}
+use Rattle.search.specs.Promise.{IfRan, Located, ListedBy, UnderCeiling, UnderKmpCeiling, AsColussi, NoZeroCovered}
 use Rattle.search.specs.declared.SearchAnswer.{SearchAnswer}
-use Rattle.search.proofs.Answers.{Answers, promised}
+use Rattle.search.proofs.Classes.{occurs-by, occurs-through, covers-no-zero}
+use Rattle.search.proofs.Answers.{Answers, plain, promised}
 
 -- The list begins with the positions found.
 begins-with-found : (s : End) (lent : List ℕ) → take (reportOf s .written) (filled s lent) ≡ s .last .found
@@ -59,8 +60,10 @@ module _ (search : Search) (w t : List ℕ) (cap : ℕ) (lent : List ℕ) where
 
 -- Document 02, C-13: an occurrence of a prepared pattern covers no place where the text holds 0.
 pub occurrence-covers-no-zero : (p : Pattern) (t : List ℕ) (b : ℕ) → IsPrepared p → Occurs (wordOf p) (textOf p t) b → CoversNo 0 (length (wordOf p)) t b
+unfolding wordOf textOf
 occurrence-covers-no-zero p t b G O =
-    covers-none-lacked (wordOf p) t 0 b (rw (word-own p) (fields-of p G .no-zero)) (rw (text-own p t) at O)
+    let F = fields-of p G in
+    covers-no-zero (p .classes) (ownBytes p) t b (F .usable) (F .no-zero) O
 
 module _ (p : Pattern) (t : List ℕ) (cap : ℕ) (lent : List ℕ) where
   -- A pattern that is let in has a letter.
@@ -76,11 +79,36 @@ module _ (p : Pattern) (t : List ℕ) (cap : ℕ) (lent : List ℕ) where
       let found : List ℕ = search (wordOf p) (textOf p t) cap (length lent) .last .found in
       rw (List·getD-append found (drop (length found) lent) 0 i l) (occurrence-covers-no-zero p t (getD found i 0) (I .prepared) (F .lists .occur i l))
 
+  -- What it lists, in terms of bytes.
+  bytes-occur : (x : ℕ) → Occurs (wordOf p) (textOf p t) x → OccursBy (p .classes) (ownBytes p) t x
+  unfolding wordOf textOf
+  bytes-occur x O = occurs-by (p .classes) (ownBytes p) t x O
+
+  letters-occur : (x : ℕ) → OccursBy (p .classes) (ownBytes p) t x → Occurs (wordOf p) (textOf p t) x
+  unfolding wordOf textOf
+  letters-occur x O = occurs-through (p .classes) (ownBytes p) t x O
+
+  listed-by : (search : Search) → Finds search (wordOf p) (textOf p t) cap (length lent)
+      → ListedBy (p .classes) (ownBytes p) t (filled (search (wordOf p) (textOf p t) cap (length lent)) lent)
+      (reportOf (search (wordOf p) (textOf p t) cap (length lent)))
+  unfolding reportOf filled
+  listed-by search F =
+      let found : List ℕ = search (wordOf p) (textOf p t) cap (length lent) .last .found in
+      let at : (i : ℕ) → i < length found → getD (found ++ drop (length found) lent) i 0 ≡ getD found i 0 =
+      λ i l. List·getD-append found (drop (length found) lent) 0 i l in
+      record {
+        occur = λ i l. rw (at i l) (bytes-occur (getD found i 0) (F .lists .occur i l));
+        all = λ x h O.
+            let one = F .lists .all x h (letters-occur x O) in
+            (one .0, one .1, at (one .0) (one .1) ∙ one .2);
+      }
+
   -- What `colussi` ensures of its answer and its list.
   pub colussi-promises : {r : SearchAnswer} {after : List ℕ} → Answers colussi p t cap lent r after
       → (r ≡ answerBy colussi p t cap (length lent)) × ((after ≡ listBy colussi p t cap lent)
-      × (IfRan (Located colussi (wordOf p) (textOf p t) cap after) r × (IfRan (UnderCeiling (length (wordOf p)) (length t)) r
-      × IfRan (NoZeroCovered (length (wordOf p)) t after) r)))
+      × (IfRan (Located colussi (wordOf p) (textOf p t) cap after) r × (IfRan (ListedBy (p .classes) (ownBytes p) t after) r
+      × (IfRan (UnderCeiling (length (wordOf p)) (length t)) r × (IfRan (NoZeroCovered (length (wordOf p)) t after) r
+      × (p .classes ≡ identity → (r ≡ plainAnswerBy colussi p t cap (length lent)) × (after ≡ plainListBy colussi p t cap lent)))))))
   colussi-promises A = (
     A .answer,
     (
@@ -89,10 +117,17 @@ module _ (p : Pattern) (t : List ℕ) (cap : ℕ) (lent : List ℕ) where
         promised colussi p t cap lent (Located colussi (wordOf p) (textOf p t) cap)
             (λ I. located colussi (wordOf p) (textOf p t) cap lent (colussi-finds (wordOf p) (textOf p t) (some I) cap (length lent))) A,
         (
-          promised colussi p t cap lent (λ after r. UnderCeiling (length (wordOf p)) (length t) r)
-              (λ I. unfold reportOf in rw (length-text p t) at (colussi-ceiling (wordOf p) (textOf p t) (some I) cap (length lent))) A,
-          promised colussi p t cap lent (NoZeroCovered (length (wordOf p)) t)
-              (λ I. no-zero-covered colussi I (colussi-finds (wordOf p) (textOf p t) (some I) cap (length lent))) A,
+          promised colussi p t cap lent (ListedBy (p .classes) (ownBytes p) t)
+              (λ I. listed-by colussi (colussi-finds (wordOf p) (textOf p t) (some I) cap (length lent))) A,
+          (
+            promised colussi p t cap lent (λ after r. UnderCeiling (length (wordOf p)) (length t) r)
+                (λ I. unfold reportOf in rw (length-text p t) at (colussi-ceiling (wordOf p) (textOf p t) (some I) cap (length lent))) A,
+            (
+              promised colussi p t cap lent (NoZeroCovered (length (wordOf p)) t)
+                  (λ I. no-zero-covered colussi I (colussi-finds (wordOf p) (textOf p t) (some I) cap (length lent))) A,
+              λ e. plain colussi p t cap lent e A,
+            ),
+          ),
         ),
       ),
     ),
@@ -101,8 +136,10 @@ module _ (p : Pattern) (t : List ℕ) (cap : ℕ) (lent : List ℕ) where
   -- What `kmp` ensures of them.
   pub kmp-promises : {r : SearchAnswer} {after : List ℕ} → Answers kmp p t cap lent r after
       → (r ≡ answerBy kmp p t cap (length lent)) × ((after ≡ listBy kmp p t cap lent)
-      × (IfRan (Located kmp (wordOf p) (textOf p t) cap after) r × (IfRan (UnderKmpCeiling (length (wordOf p)) (length t)) r
-      × (IfRan (AsColussi (wordOf p) (textOf p t) after) r × IfRan (NoZeroCovered (length (wordOf p)) t after) r))))
+      × (IfRan (Located kmp (wordOf p) (textOf p t) cap after) r × (IfRan (ListedBy (p .classes) (ownBytes p) t after) r
+      × (IfRan (UnderKmpCeiling (length (wordOf p)) (length t)) r
+      × (IfRan (AsColussi (wordOf p) (textOf p t) after) r × (IfRan (NoZeroCovered (length (wordOf p)) t after) r
+      × (p .classes ≡ identity → (r ≡ plainAnswerBy kmp p t cap (length lent)) × (after ≡ plainListBy kmp p t cap lent))))))))
   kmp-promises A = (
     A .answer,
     (
@@ -111,14 +148,21 @@ module _ (p : Pattern) (t : List ℕ) (cap : ℕ) (lent : List ℕ) where
         promised kmp p t cap lent (Located kmp (wordOf p) (textOf p t) cap)
             (λ I. located kmp (wordOf p) (textOf p t) cap lent (kmp-finds (wordOf p) (textOf p t) (some I) cap (length lent))) A,
         (
-          promised kmp p t cap lent (λ after r. UnderKmpCeiling (length (wordOf p)) (length t) r)
-              (λ I. unfold reportOf in rw (length-text p t) at (kmp-ceiling (wordOf p) (textOf p t) (some I) cap (length lent))) A,
+          promised kmp p t cap lent (ListedBy (p .classes) (ownBytes p) t)
+              (λ I. listed-by kmp (kmp-finds (wordOf p) (textOf p t) (some I) cap (length lent))) A,
           (
-            promised kmp p t cap lent (AsColussi (wordOf p) (textOf p t))
-                (λ I done cap' size' done'. begins-with-found (kmp (wordOf p) (textOf p t) cap (length lent)) lent
-                ∙ sym (same-positions (wordOf p) (textOf p t) (some I) cap' size' cap (length lent) done' (unfold reportOf in done))) A,
-            promised kmp p t cap lent (NoZeroCovered (length (wordOf p)) t)
-                (λ I. no-zero-covered kmp I (kmp-finds (wordOf p) (textOf p t) (some I) cap (length lent))) A,
+            promised kmp p t cap lent (λ after r. UnderKmpCeiling (length (wordOf p)) (length t) r)
+                (λ I. unfold reportOf in rw (length-text p t) at (kmp-ceiling (wordOf p) (textOf p t) (some I) cap (length lent))) A,
+            (
+              promised kmp p t cap lent (AsColussi (wordOf p) (textOf p t))
+                  (λ I done cap' size' done'. begins-with-found (kmp (wordOf p) (textOf p t) cap (length lent)) lent
+                  ∙ sym (same-positions (wordOf p) (textOf p t) (some I) cap' size' cap (length lent) done' (unfold reportOf in done))) A,
+              (
+                promised kmp p t cap lent (NoZeroCovered (length (wordOf p)) t)
+                    (λ I. no-zero-covered kmp I (kmp-finds (wordOf p) (textOf p t) (some I) cap (length lent))) A,
+                λ e. plain kmp p t cap lent e A,
+              ),
+            ),
           ),
         ),
       ),

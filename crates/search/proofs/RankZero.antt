@@ -1,11 +1,12 @@
 -- Windows that miss at rank 0, as a search by the rules passes them. Assumes nothing.
-use Prim.Native.Nat.{ℕ, zero, suc, _+_, _-_, _*_, _≤_, _<_}
+use Prim.Native.Nat.{ℕ, zero, suc, _+_, _-_, _≤_, _<_}
 use mathlib.Core.Path.{_≡_, sym, ap, _∙_}
 use mathlib.Core.Logic.{⊎-elim}
 use mathlib.Core.Bool.{true, false}
 use mathlib.Core.List.{List, _∷_}
 use native.Mathlib.Omega.{arith}
 use lib.ListN.{length, getD}
+use borrow.Author.Count.{below-more}
 use borrow.Author.Tests.{eq-eqb, ne-eqb}
 use Rattle.words.specs.Tables.{letter}
 use Rattle.words.proofs.Cases.{less-or}
@@ -18,6 +19,27 @@ use Rattle.rules.proofs.Scans.{Scans, scans-on}
 use Rattle.search.specs.Internal.RankZero.{Skips, Ahead}
 
 -- ---- In the terms of the code
+
+-- No place from a on and below p holds x.
+pub record Passed (text : List ℕ) (x a p : ℕ) : Type 0 where
+  pub none : (k : ℕ) → k < p → a ≤ k → letter text k ≡ x → ⊥
+
+module _ {text : List ℕ} {x a p : ℕ} (P : Passed text x a p) where
+  -- Nor does p.
+  pub passed-one : {q : ℕ} → q ≡ p + 1 → (x ≡ letter text p → ⊥) → Passed text x a q
+  passed-one e miss = record { none = rw e (below-more _ p (P .none) (λ h same. miss (sym same))) }
+
+  -- A skip ends there, or goes on from there.
+  pub skips-to : {b : ℕ} → a ≤ p → p < b → x ≡ letter text p → Skips text x a b p
+  skips-to l h is = record { from = l; upto = omega arith; passed = λ k g below. P .none k below g; found = λ _. sym is }
+
+  pub skips-on : {b r : ℕ} → a ≤ p → Skips text x p b r → Skips text x a b r
+  skips-on l S = record {
+    from = omega (arith, S .from);
+    upto = S .upto;
+    passed = λ k g below. ⊎-elim (λ (h : k < p). P .none k h g) (λ (h : p ≤ k). S .passed k h below) (less-or k p);
+    found = S .found;
+  }
 
 -- Window b matches at once.
 pub ahead-at-once : (text : List ℕ) (x o last cap b c : ℕ) → b ≤ last → c < cap → getD text (b + o) 0 ≡ x → Ahead text x o last cap b c b 1 (c + 1)

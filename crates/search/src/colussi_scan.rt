@@ -1,14 +1,15 @@
 // The scan of a text in Colussi's order, over the tables of a pattern that are lent. It makes exactly the comparisons that it counts.
+use super::compare::agree;
 use super::ends::ended;
 use super::entries::wide8;
 use super::entries::wide16;
-use super::letters::agree;
 use super::rank_zero::ahead;
 use rules::Ending;
 use rules::Report;
 ghost use mathlib.Core.Path.{_≡_};
 ghost use Prim.Native.Nat.{_+_, _^_, _≤_, _<_};
 ghost use lib.ListN.{length, getD, take};
+ghost use Rattle.classes.specs.Classes.{classCount, through};
 ghost use Rattle.rules.specs.Colussi.{colussi};
 ghost use Rattle.rules.specs.Report.{Reported};
 ghost use Rattle.search.specs.Internal.ColussiScan.{LentOrder, LentMoves, DueAt, edgeAfter};
@@ -62,27 +63,28 @@ pub fn due(order: &[u8], m: usize, b: usize, i: usize, e: usize) -> bool
 
 // The whole text.
 pub fn scan<'a>(
-    bytes: &'a [u8],
+    letters: &'a [u8],
     order: &'a [u8],
     shift: &'a [u16],
     next: &'a [u16],
     m: usize,
     d: usize,
-    text: &[u8],
+    classes: &'a [u8],
+    text: &'a [u8],
     cap: u64,
     positions: &mut [u32],
 ) -> Report
-    requires { ⌜ LentOrder (now bytes) (now order) m d ⌝ }
-    requires { ⌜ LentMoves (now bytes) (now shift) (now next) m ⌝ }
-    requires { ⌜ length (now text) < 2 ^ 32 ⌝ }
-    ensures { λ r. ⌜ Reported (colussi (take m (now (bytes .entry))) (now (text .entry)) cap (length (now (positions .entry)))) (now (positions .entry)) (now (positions .exit)) r ⌝ }
+    requires { ⌜ LentOrder (now letters) (now order) m d ⌝ }
+    requires { ⌜ LentMoves (now letters) (now shift) (now next) m ⌝ }
+    requires { ⌜ (length (now classes) ≡ classCount) × (length (now text) < 2 ^ 32) ⌝ }
+    ensures { λ r. ⌜ Reported (colussi (take m (now (letters .entry))) (through (now (classes .entry)) (now (text .entry))) cap (length (now (positions .entry)))) (now (positions .entry)) (now (positions .exit)) r ⌝ }
 {
     if text.len() < m {
         return ended(Ending::Done, 0, 0);
     }
     let last = text.len() - m;
     let first = wide8(order[0]);
-    let x = bytes[first];
+    let x = letters[first];
     let mut b: usize = 0;
     let mut i: usize = 0;
     let mut e: usize = 0;
@@ -95,7 +97,7 @@ pub fn scan<'a>(
                 return ended(Ending::Spent(b), c, k);
             }
             c += 1;
-            if agree(bytes[o], text[b + o]) {
+            if agree(letters[o], classes, text, b + o) {
                 i += 1;
             } else {
                 let after = leave(shift, next, m, d, b, i, e);
@@ -105,7 +107,7 @@ pub fn scan<'a>(
                 // Rank 0 is a nohole's where there are any: windows that miss there are passed at once.
                 if (i == 0) & (0 < d) & (b <= last) {
                     if e <= b + first {
-                        let spot = ahead(text, x, first, last, b, c, cap);
+                        let spot = ahead(classes, text, x, first, last, b, c, cap);
                         b = spot.window;
                         i = spot.rank;
                         c = spot.count;

@@ -1,9 +1,9 @@
 // The scan of a text by Knuth, Morris and Pratt, over the tables of a pattern that are lent. It makes exactly the comparisons that it
 // counts.
+use super::compare::agree;
 use super::ends::ended;
 use super::entries::wide8;
 use super::entries::wide16;
-use super::letters::agree;
 use super::rank_zero::ahead;
 use pattern::RANKS;
 use rules::Ending;
@@ -11,6 +11,7 @@ use rules::Report;
 ghost use mathlib.Core.Path.{_≡_};
 ghost use Prim.Native.Nat.{_-_, _^_, _≤_, _<_};
 ghost use lib.ListN.{length, take};
+ghost use Rattle.classes.specs.Classes.{classCount, through};
 ghost use Rattle.intake.specs.Sizes.{longestPattern};
 ghost use Rattle.rules.specs.Kmp.{kmp};
 ghost use Rattle.rules.specs.Report.{Reported};
@@ -54,18 +55,19 @@ pub fn minus(i: usize, s: usize) -> usize
 }
 
 // The whole text.
-pub fn scan(
-    bytes: &[u8],
+pub fn scan<'a>(
+    letters: &'a [u8],
     shifts: [u16; RANKS],
     m: usize,
-    text: &[u8],
+    classes: &'a [u8],
+    text: &'a [u8],
     cap: u64,
     positions: &mut [u32],
 ) -> Report
-    requires { ⌜ (1 ≤ m) × (m ≤ longestPattern) × (m ≤ length (now bytes)) ⌝ }
-    requires { ⌜ KmpShifts (take m (now bytes)) shifts ⌝ }
-    requires { ⌜ length (now text) < 2 ^ 32 ⌝ }
-    ensures { λ r. ⌜ Reported (kmp (take m (now (bytes .entry))) (now (text .entry)) cap (length (now (positions .entry)))) (now (positions .entry)) (now (positions .exit)) r ⌝ }
+    requires { ⌜ (1 ≤ m) × (m ≤ longestPattern) × (m ≤ length (now letters)) ⌝ }
+    requires { ⌜ KmpShifts (take m (now letters)) shifts ⌝ }
+    requires { ⌜ (length (now classes) ≡ classCount) × (length (now text) < 2 ^ 32) ⌝ }
+    ensures { λ r. ⌜ Reported (kmp (take m (now (letters .entry))) (through (now (classes .entry)) (now (text .entry))) cap (length (now (positions .entry)))) (now (positions .entry)) (now (positions .exit)) r ⌝ }
 {
     if text.len() < m {
         return ended(Ending::Done, 0, 0);
@@ -81,7 +83,7 @@ pub fn scan(
                 return ended(Ending::Spent(b), c, k);
             }
             c += 1;
-            if agree(bytes[i], text[b + i]) {
+            if agree(letters[i], classes, text, b + i) {
                 i += 1;
             } else {
                 let s = wide16(shifts[i]);
@@ -89,7 +91,7 @@ pub fn scan(
                 i = minus(i, s);
                 // Windows that miss at place 0 are passed at once.
                 if (i == 0) & (b <= last) {
-                    let spot = ahead(text, bytes[0], 0, last, b, c, cap);
+                    let spot = ahead(classes, text, letters[0], 0, last, b, c, cap);
                     b = spot.window;
                     i = spot.rank;
                     c = spot.count;

@@ -1,23 +1,51 @@
-// Windows that miss at rank 0, in a search that leaves such a window by 1, for rank 0 again: a scan of the text for one byte. Both searches
+// Windows that miss at rank 0, in a search that leaves such a window by 1, for rank 0 again: a scan of the text for one letter. Both searches
 // pass them so.
-use super::letters::agree;
+use super::compare::agree;
+ghost use mathlib.Core.Path.{_≡_};
 ghost use Prim.Native.Nat.{_+_, _^_, _≤_, _<_};
 ghost use lib.ListN.{length};
+ghost use Rattle.classes.specs.Classes.{classCount, through};
 ghost use Rattle.search.specs.Internal.RankZero.{Skips, Ahead};
 
-// The first place from `from` on and below `end` that holds x, and `end` where none does.
-pub fn skip(text: &[u8], x: u8, from: usize, end: usize) -> usize
+// The first place from `from` on and below `end` that has the letter x, and `end` where none does.
+fn skip_ones<'a>(classes: &'a [u8], text: &'a [u8], x: u8, from: usize, end: usize) -> usize
+    requires { ⌜ length (now classes) ≡ classCount ⌝ }
     requires { ⌜ (from ≤ end) × (end ≤ length (now text)) ⌝ }
-    ensures { λ r. ⌜ Skips (now (text .entry)) x from end r ⌝ }
+    ensures { λ r. ⌜ Skips (through (now (classes .entry)) (now (text .entry))) x from end r ⌝ }
 {
     let mut p = from;
     while p < end {
-        if agree(text[p], x) {
+        if agree(x, classes, text, p) {
             return p;
         }
         p += 1;
     }
     p
+}
+
+// The same, by fours as long as four are left: what a loop does beside comparing, it does once for four.
+pub fn skip<'a>(classes: &'a [u8], text: &'a [u8], x: u8, from: usize, end: usize) -> usize
+    requires { ⌜ length (now classes) ≡ classCount ⌝ }
+    requires { ⌜ (from ≤ end) × (end ≤ length (now text)) ⌝ }
+    ensures { λ r. ⌜ Skips (through (now (classes .entry)) (now (text .entry))) x from end r ⌝ }
+{
+    let mut p = from;
+    while 4 <= end - p {
+        if agree(x, classes, text, p) {
+            return p;
+        }
+        if agree(x, classes, text, p + 1) {
+            return p + 1;
+        }
+        if agree(x, classes, text, p + 2) {
+            return p + 2;
+        }
+        if agree(x, classes, text, p + 3) {
+            return p + 3;
+        }
+        p += 4;
+    }
+    skip_ones(classes, text, x, p, end)
 }
 
 fn least(a: u64, b: u64) -> u64
@@ -35,9 +63,19 @@ pub struct Spot {
 
 // From rank 0 of window b, where x is due at place o: past the windows that miss, to rank 1 of the first that does not. It stops at rank 0
 // past the last window, or where the cap is spent.
-pub fn ahead(text: &[u8], x: u8, o: usize, last: usize, b: usize, c: u64, cap: u64) -> Spot
+pub fn ahead<'a>(
+    classes: &'a [u8],
+    text: &'a [u8],
+    x: u8,
+    o: usize,
+    last: usize,
+    b: usize,
+    c: u64,
+    cap: u64,
+) -> Spot
+    requires { ⌜ length (now classes) ≡ classCount ⌝ }
     requires { ⌜ (b ≤ last) × (last + o < length (now text)) × (length (now text) < 2 ^ 32) × (c ≤ cap) ⌝ }
-    ensures { λ r. ⌜ Ahead (now (text .entry)) x o last cap b c (r .window) (r .rank) (r .count) ⌝ }
+    ensures { λ r. ⌜ Ahead (through (now (classes .entry)) (now (text .entry))) x o last cap b c (r .window) (r .rank) (r .count) ⌝ }
 {
     if c == cap {
         return Spot {
@@ -47,7 +85,7 @@ pub fn ahead(text: &[u8], x: u8, o: usize, last: usize, b: usize, c: u64, cap: u
         };
     }
     let from = b + o;
-    if agree(text[from], x) {
+    if agree(x, classes, text, from) {
         return Spot {
             window: b,
             rank: 1,
@@ -55,7 +93,7 @@ pub fn ahead(text: &[u8], x: u8, o: usize, last: usize, b: usize, c: u64, cap: u
         };
     }
     let room = least((last - b) as u64, cap - c - 1) as usize;
-    let k = skip(text, x, from + 1, from + 1 + room) - from;
+    let k = skip(classes, text, x, from + 1, from + 1 + room) - from;
     if k <= room {
         return Spot {
             window: b + k,

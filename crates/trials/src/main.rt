@@ -59,7 +59,7 @@ impl Tally {
 // The pattern beside a refusal is all zero, and the searches refuse it.
 fn prepared(bytes: &[u8]) -> Pattern {
     let mut scratch = [0u16; SCRATCH];
-    let answer = preparation::prepare(bytes, &mut scratch);
+    let answer = preparation::prepare(bytes, &classes::identity_classes(), &mut scratch);
     answer.pattern
 }
 

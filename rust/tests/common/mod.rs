@@ -2,7 +2,9 @@
 
 #![allow(dead_code)] // Each test file uses a part of it.
 
-use crate::oracle::{self, Tables};
+pub mod classes;
+
+use crate::oracle::{self, Tables, CLASSES};
 use poqewan::{Ending, Pattern, Preparation, Refusal, Report, SCRATCH};
 
 /// What lists hold before a search. No text is long enough to have such a position.
@@ -72,10 +74,15 @@ pub struct Trial {
 }
 
 impl Trial {
-    /// Prepares a pattern, which must come out as the oracle's.
+    /// Prepares a pattern with each value its own class.
     pub fn of(bytes: &[u8]) -> Self {
-        let tables = Tables::of(bytes);
-        let pattern = prepared(bytes);
+        Self::with_classes(bytes, &oracle::identity())
+    }
+
+    /// Prepares a pattern, which must come out as the oracle's.
+    pub fn with_classes(bytes: &[u8], classes: &[u8; CLASSES]) -> Self {
+        let tables = Tables::of(bytes, classes);
+        let pattern = preparation(bytes, classes).pattern;
         assert!(
             pattern == tables.pattern(),
             "tables of \"{}\" differ: {pattern:?}, by definition {:?}",
@@ -103,7 +110,7 @@ impl Trial {
 
     /// Runs both searches and checks all that is promised of them.
     pub fn check(&mut self, text: &[u8], cap: u64, list_len: usize) -> [Report; 2] {
-        let occurrences = oracle::occurrences(&self.tables.bytes, text);
+        let occurrences = oracle::occurrences(&self.tables.bytes, &self.tables.classes, text);
         Method::BOTH.map(|method| self.check_one(method, text, cap, list_len, &occurrences))
     }
 
@@ -121,7 +128,7 @@ impl Trial {
         let expected = method.by_rules(&self.tables, text, cap, list_len, &mut self.by_rules);
 
         let bytes = &self.tables.bytes;
-        let case = || case(method, bytes, text, cap, list_len);
+        let case = || case(method, &self.tables, text, cap, list_len);
         assert!(
             answer == Ok(expected),
             "{}: {answer:?}, by the rules {expected:?}",
@@ -176,25 +183,70 @@ fn covers_no_zero(text: &[u8], b: u32, m: usize) -> bool {
     !text[b..b + m].contains(&0)
 }
 
-/// Names a case in a message; only the start of a long text is shown.
-fn case(method: Method, bytes: &[u8], text: &[u8], cap: u64, list_len: usize) -> String {
+/// Names a case in a message; only the start of a long text is shown, and the classes only where
+/// they are not the identity.
+fn case(method: Method, tables: &Tables, text: &[u8], cap: u64, list_len: usize) -> String {
+    let classes = Some(tables.classes).filter(|&classes| classes != oracle::identity());
     format!(
-        "{method:?}, \"{}\" in \"{}\" ({} bytes), cap {cap}, list of {list_len}",
-        bytes.escape_ascii(),
+        "{method:?}, \"{}\" in \"{}\" ({} bytes), cap {cap}, list of {list_len}, classes {classes:?}",
+        tables.bytes.escape_ascii(),
         text[..text.len().min(100)].escape_ascii(),
         text.len()
     )
 }
 
-/// What preparation gives for a pattern that it must accept.
-pub fn preparation(bytes: &[u8]) -> Preparation {
-    poqewan::prepare(bytes, &mut [0xFFFF; SCRATCH])
-        .expect("1 to 256 bytes, none 0, and enough scratch")
+/// What preparation gives for a pattern and classes that it must accept.
+pub fn preparation(bytes: &[u8], classes: &[u8; CLASSES]) -> Preparation {
+    poqewan::prepare(bytes, classes, &mut [0xFFFF; SCRATCH])
+        .expect("1 to 256 bytes, none 0, the class of 0 its own, and enough scratch")
 }
 
-/// Prepares a pattern that preparation must accept.
+/// Prepares a pattern that preparation must accept, with each value its own class.
 pub fn prepared(bytes: &[u8]) -> Pattern {
-    preparation(bytes).pattern
+    preparation(bytes, &oracle::identity()).pattern
+}
+
+/// Prepares a pattern, and checks the answer and the scratch. Gives the refusal, if any.
+pub fn check_preparation(bytes: &[u8], classes: &[u8], scratch_len: usize) -> Option<Refusal> {
+    // All numbers differ and none is 0.
+    let lent: Vec<u16> = (1..=scratch_len).map(|i| i as u16).collect();
+    let mut scratch = lent.clone();
+    let answer = poqewan::prepare(bytes, classes, &mut scratch);
+
+    let [m, entries] = [bytes, classes].map(<[u8]>::len);
+    let case = format!("{m} bytes, {entries} classes, scratch of {scratch_len}");
+    let refusal = oracle::preparation_refusal(bytes, classes, scratch_len);
+    match refusal {
+        Some(why) => assert_eq!(answer, Err(why), "{case}"),
+        None => {
+            let classes: &[u8; CLASSES] = classes.try_into().expect("256 are accepted");
+            let expected = Preparation {
+                compared: oracle::fast_method(bytes, classes).0,
+                pattern: Tables::of(bytes, classes).pattern(),
+            };
+            assert_eq!(answer, Ok(expected), "{case}");
+        }
+    }
+    let after = oracle::scratch_after(bytes, classes, &lent);
+    assert_eq!(scratch, after, "{case}");
+    refusal
+}
+
+/// Both searches must do as the oracle says of this value: refuse it, or search with it. Gives
+/// whether it is true.
+pub fn check_value(value: &Pattern) -> bool {
+    match oracle::tables_if_true(value) {
+        None => {
+            assert_refused(value, b"abaababaabaab", Refusal::FalsePattern);
+            false
+        }
+        Some(tables) => {
+            let mut trial = Trial::with_classes(&tables.bytes, &tables.classes);
+            assert_eq!(trial.pattern(), value);
+            trial.check_to_the_end(&repeated(&tables.bytes, 2 * value.len + 1));
+            true
+        }
+    }
 }
 
 /// Both searches must refuse so and leave the list as it is.

@@ -9,16 +9,32 @@ use poqewan::{Ending, Pattern, Refusal, Report};
 /// The longest pattern, as document 01 has it.
 pub const LONGEST_PATTERN: usize = 256;
 
+/// The number of classes, as document 02 (C-19) has it.
+pub const CLASSES: usize = 256;
+
 /// The least scratch, as document 02 (C-18) has it.
 pub const SCRATCH: usize = 514;
 
 /// The least scratch before C-18.
 pub const FORMER_SCRATCH: usize = 771;
 
-/// The positions where the pattern occurs: all its bytes stand at b in the text.
-pub fn occurrences(pattern: &[u8], text: &[u8]) -> Vec<u32> {
+/// Request C-19: two bytes count as equal when their classes are.
+pub fn equal(classes: &[u8; CLASSES], one: u8, other: u8) -> bool {
+    classes[usize::from(one)] == classes[usize::from(other)]
+}
+
+/// The classes that give each value itself.
+pub fn identity() -> [u8; CLASSES] {
+    std::array::from_fn(|value| value as u8)
+}
+
+/// The positions where the pattern occurs: b + m is at most n, and pattern byte p equals text byte
+/// b + p for each p below m.
+pub fn occurrences(pattern: &[u8], classes: &[u8; CLASSES], text: &[u8]) -> Vec<u32> {
+    let m = pattern.len();
     (0..text.len())
-        .filter(|&b| text[b..].starts_with(pattern))
+        .filter(|&b| b + m <= text.len())
+        .filter(|&b| (0..m).all(|p| equal(classes, pattern[p], text[b + p])))
         .map(position)
         .collect()
 }
@@ -28,14 +44,18 @@ fn position(b: usize) -> u32 {
     u32::try_from(b).expect("no text is that long")
 }
 
-/// Preparation's refusal, if any: tests 1, 2, 10 and 3, in this order.
-pub fn preparation_refusal(pattern: &[u8], scratch_len: usize) -> Option<Refusal> {
+/// Preparation's refusal, if any: tests 1, 2, 10, 14, 15 and 3, in this order.
+pub fn preparation_refusal(pattern: &[u8], classes: &[u8], scratch_len: usize) -> Option<Refusal> {
     if pattern.is_empty() {
         Some(Refusal::NoPattern)
     } else if pattern.len() > LONGEST_PATTERN {
         Some(Refusal::LongPattern)
     } else if pattern.contains(&0) {
         Some(Refusal::ZeroInPattern)
+    } else if classes.len() != CLASSES {
+        Some(Refusal::ClassesNot256)
+    } else if (1..=255).any(|value| classes[value] == classes[0]) {
+        Some(Refusal::ZeroClassShared)
     } else if scratch_len < SCRATCH {
         Some(Refusal::ShortScratch)
     } else {
@@ -45,9 +65,9 @@ pub fn preparation_refusal(pattern: &[u8], scratch_len: usize) -> Option<Refusal
 
 /// What a scratch holds after preparation: on success its first 514 numbers are 0 and the rest
 /// unchanged; after a refusal all are unchanged.
-pub fn scratch_after(pattern: &[u8], lent: &[u16]) -> Vec<u16> {
+pub fn scratch_after(pattern: &[u8], classes: &[u8], lent: &[u16]) -> Vec<u16> {
     let mut scratch = lent.to_vec();
-    if preparation_refusal(pattern, lent.len()).is_none() {
+    if preparation_refusal(pattern, classes, lent.len()).is_none() {
         scratch[..SCRATCH].fill(0);
     }
     scratch
@@ -72,29 +92,30 @@ pub fn marked_below(marks: &[u64; 4], p: usize) -> usize {
 }
 
 /// k is a period if every two bytes k places apart are equal.
-fn is_period(pattern: &[u8], k: usize) -> bool {
-    (k..pattern.len()).all(|p| pattern[p] == pattern[p - k])
+fn is_period(pattern: &[u8], classes: &[u8; CLASSES], k: usize) -> bool {
+    (k..pattern.len()).all(|p| equal(classes, pattern[p], pattern[p - k]))
 }
 
 /// hmax(k): the first place p, from k up, where byte p differs from byte p - k; m if there is none.
-pub fn hmax(pattern: &[u8], k: usize) -> usize {
+pub fn hmax(pattern: &[u8], classes: &[u8; CLASSES], k: usize) -> usize {
     (k..pattern.len())
-        .find(|&p| pattern[p] != pattern[p - k])
+        .find(|&p| !equal(classes, pattern[p], pattern[p - k]))
         .unwrap_or(pattern.len())
 }
 
 /// Request C-23: the comparisons of two pattern bytes that source document 003's fast method makes,
 /// and the table that it leaves, with hmax(k) at k. This is its Algorithm 7, line by line.
-pub fn fast_method(pattern: &[u8]) -> (u32, Vec<usize>) {
+pub fn fast_method(pattern: &[u8], classes: &[u8; CLASSES]) -> (u32, Vec<usize>) {
     let m = pattern.len();
     // The sentinel is no byte, so a look at it is no comparison of two bytes.
     let w: Vec<Option<u8>> = pattern.iter().copied().map(Some).chain([None]).collect();
     let mut compared = 0;
-    let mut equal = |i: usize, j: usize| {
-        if w[i].is_some() && w[j].is_some() {
+    let mut equal = |i: usize, j: usize| match (w[i], w[j]) {
+        (Some(one), Some(other)) => {
             compared += 1;
+            equal(classes, one, other)
         }
-        w[i] == w[j]
+        _ => false,
     };
 
     let mut hmax = vec![0; m + 1];
@@ -126,6 +147,8 @@ pub fn fast_method(pattern: &[u8]) -> (u32, Vec<usize>) {
 pub struct Tables {
     /// The pattern's m bytes.
     pub bytes: Vec<u8>,
+    /// The class of each value.
+    pub classes: [u8; CLASSES],
     /// k and hmax(k), for k from 1 to m.
     pub hmax: Vec<(usize, usize)>,
     /// kmin(p), for each place p; none if p is a hole.
@@ -145,11 +168,11 @@ pub struct Tables {
 }
 
 impl Tables {
-    /// The tables of a pattern of at least one byte.
-    pub fn of(bytes: &[u8]) -> Self {
+    /// The tables of a pattern of at least one byte, with 256 classes.
+    pub fn of(bytes: &[u8], classes: &[u8; CLASSES]) -> Self {
         let m = bytes.len();
 
-        let hmax: Vec<_> = (1..=m).map(|k| (k, hmax(bytes, k))).collect();
+        let hmax: Vec<_> = (1..=m).map(|k| (k, hmax(bytes, classes, k))).collect();
 
         // Place p is a nohole if some k has hmax(k) = p; kmin(p) is the least such k.
         let kmin: Vec<_> = (0..m)
@@ -159,7 +182,7 @@ impl Tables {
         let is_hole = |&p: &usize| kmin[p].is_none();
 
         // rmin(p) is the least period of the pattern greater than p. m is always one.
-        let periods: Vec<_> = (1..=m).filter(|&k| is_period(bytes, k)).collect();
+        let periods: Vec<_> = (1..=m).filter(|&k| is_period(bytes, classes, k)).collect();
         let rmin: Vec<_> = (0..m)
             .map(|p| *periods.iter().find(|&&k| k > p).expect("m is a period"))
             .collect();
@@ -195,6 +218,7 @@ impl Tables {
 
         Self {
             bytes: bytes.to_vec(),
+            classes: *classes,
             hmax,
             kmin,
             rmin,
@@ -212,6 +236,7 @@ impl Tables {
         pattern.len = self.bytes.len();
         pattern.noholes = self.noholes;
         pattern.bytes[..self.bytes.len()].copy_from_slice(&self.bytes);
+        pattern.classes = self.classes;
         fill(&mut pattern.order, &self.order);
         fill(&mut pattern.shift, &self.shift);
         fill(&mut pattern.next, &self.next);
@@ -227,6 +252,7 @@ pub const ZERO: Pattern = Pattern {
     len: 0,
     noholes: 0,
     bytes: [0; LONGEST_PATTERN],
+    classes: [0; CLASSES],
     order: [0; LONGEST_PATTERN],
     shift: [0; LONGEST_PATTERN + 1],
     next: [0; LONGEST_PATTERN + 1],
@@ -240,13 +266,14 @@ fn fill<T: TryFrom<usize>>(field: &mut [T], table: &[usize]) {
     }
 }
 
-/// The tables for a value's own length and bytes, if the value is what preparation gives for them.
+/// The tables for a value's own length, bytes and classes, if the value is what preparation gives
+/// for them.
 pub fn tables_if_true(value: &Pattern) -> Option<Tables> {
     let own = value.bytes.get(..value.len)?;
-    if preparation_refusal(own, usize::MAX).is_some() {
+    if preparation_refusal(own, &value.classes, usize::MAX).is_some() {
         return None;
     }
-    let tables = Tables::of(own);
+    let tables = Tables::of(own, &value.classes);
     (tables.pattern() == *value).then_some(tables)
 }
 
@@ -278,7 +305,7 @@ pub fn search_by_rules(
             }
             let p = tables.order[i];
             c += 1;
-            if tables.bytes[p] == text[b + p] {
+            if equal(&tables.classes, tables.bytes[p], text[b + p]) {
                 i += 1;
                 continue;
             }
@@ -320,7 +347,7 @@ pub fn kmp_by_rules(
                 return report(Ending::Spent(b), c, positions);
             }
             c += 1;
-            if tables.bytes[i] == text[b + i] {
+            if equal(&tables.classes, tables.bytes[i], text[b + i]) {
                 i += 1;
                 continue;
             }

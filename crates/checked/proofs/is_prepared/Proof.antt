@@ -1,7 +1,7 @@
 -- `is_prepared` meets its contract: it goes by the outcome of preparation again, and then by its pattern. Assumes nothing.
-use mathlib.Core.Path.{refl}
+use mathlib.Core.Path.{refl, _∙_}
 use borrow.Author.Needs.{needs}
-use Rattle.checked.proofs.Checked.{tested}
+use Rattle.checked.proofs.Checked.{tables-tell, tested}
 use Rattle.checked.proofs.is_prepared.Statement.{statement}
 use Rattle.checked.proofs.is_prepared.Tie as tie
 
@@ -9,7 +9,7 @@ returns : tie.Need-returns
 returns c =
     let told = c .before in
     let again = told .before .before .before in
-    tested _ (again .prepared-again .ensures) (rw (told .enum-told .given .1) (c .same-pattern .ensures))
+    tested _ (again .prepared-again .ensures) (c .same-tables .ensures ∙ tables-tell _ (again .prepared-again .ensures) (told .enum-told .given .1))
 
 returns-2 : tie.Need-returns-2
 returns-2 c =

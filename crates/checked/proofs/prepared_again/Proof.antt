@@ -11,7 +11,7 @@ slice-aggregate-prepare-alone : tie.Need-slice-aggregate-prepare-alone
 slice-aggregate-prepare-alone c = sym (length-take-le _ _ (omega arith))
 
 returns : tie.Need-returns
-returns c = let args = c .before .before .before .before .args in cc (take-least (args .len) (args .bytes .now))
+returns c = let args = c .before .before .before .before .before .args in cc (take-least (args .len) (args .bytes .now))
 
 pub prepared-again-spec : {M : Type 1} → statement M
 prepared-again-spec =

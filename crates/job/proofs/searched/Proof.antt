@@ -1,8 +1,12 @@
 -- `job::searched` meets its contract: the search for the bytes just prepared is not refused, and what it found is reported. Assumes nothing.
-use mathlib.Core.Path.{_≡_}
+use Prim.Native.Nat.{ℕ}
+use mathlib.Core.Path.{_≡_, ap, _∙_}
+use mathlib.Core.List.{List}
 use native.Mathlib.Omega.{arith}
 use lib.ListN.{replicate}
 use borrow.Author.Needs.{needs}
+use Rattle.intake.specs.Sizes.{scratchSize}
+use Rattle.preparation.specs.Prepared.{prepared}
 use Rattle.rules.specs.Rules.{End}
 use Rattle.rules.specs.Colussi.{colussi}
 use Rattle.rules.specs.Report.{reportOf, filled}
@@ -12,7 +16,7 @@ use Rattle.job.proofs.Searching.{Found, found, not-refused, lines-of-fo
 use Rattle.job.proofs.searched.Statement.{statement}
 use Rattle.job.proofs.searched.Tie as tie
 
-slice-aggregate-prepare : tie.Need-slice-aggregate-prepare
+slice-aggregate-prepare : tie.Need-slice-aggregate-prepare-2
 slice-aggregate-prepare c = search needs
 
 prepare-requires : tie.Need-prepare-requires
@@ -36,17 +40,18 @@ search-of c = colussi (c .args .bytes .now) (c .args .text .now) noCap listSize
 
 -- What was answered, and what was left in the list.
 ran : (c : tie.After-colussi)
-    → (let end = search-of (c .before .before .before .before .before .before .before .before) in
+    → (let end = search-of (c .before .before .before .before .before .before .before .before .before .before) in
     (c .colussi .result ≡ Ran (reportOf end)) × (c .colussi .last .1 .1 .1 .0 ≡ filled end (replicate listSize 0)))
 ran c =
     let at-prepare = c .before .before .before in
-    let entry = at-prepare .before .before .before .before .before in
+    let entry = at-prepare .before .before .before .before .before .before .before in
+    let plain = at-prepare .before .before .before .identity-classes .ensures in
     prepared-runs (entry .args .bytes .now) (entry .args .text .now) (entry .pre .0) (omega (arith, entry .pre .1))
-    (at-prepare .prepare .ensures .0) noCap (replicate listSize 0) (c .colussi .ensures .0) (c .colussi .ensures .1 .0)
+    (at-prepare .prepare .ensures .0 ∙ ap (λ (l : List ℕ). prepared (entry .args .bytes .now) l scratchSize) plain) noCap (replicate listSize 0) (c .colussi .ensures .0) (c .colussi .ensures .1 .0)
 
 found-here : (c : tie.After-answer)
     → (let at-colussi = c .before .before .before in
-    Found (search-of (at-colussi .before .before .before .before .before .before .before .before))
+    Found (search-of (at-colussi .before .before .before .before .before .before .before .before .before .before))
     (c .answer .given .0 .0) (at-colussi .colussi .last .1 .1 .1 .0))
 found-here c = let R = ran (c .before .before .before) in found _ (R .0) (replicate listSize 0) (R .1) (c .answer .given .1)
 
@@ -80,6 +85,8 @@ pub searched-spec : {M : Type 1} → statement M
 searched-spec =
     tie.close
     (tie.spec
+    (λ c κs. search needs)
+    (λ c. search needs)
     slice-aggregate-prepare
     prepare-requires
     slice-aggregate-colussi

@@ -12,7 +12,22 @@ returns c =
     let a = at-search .colussi .result in
     let S = at-search .colussi .ensures in
     let C = c .carry .ensures in
-    (C ∙ ap carried (S .0), (S .1 .0, (promised-to-c _ a C (S .1 .1 .0), (promised-to-c _ a C (S .1 .1 .1 .0), promised-to-c _ a C (S .1 .1 .1 .1)))))
+    let located = S .1 .1 in
+    let classed = located .1 in
+    let ceiling = classed .1 in
+    let zeros = ceiling .1 in (
+      C ∙ ap carried (S .0),
+      (
+        S .1 .0,
+        (
+          promised-to-c _ a C (located .0),
+          (
+            promised-to-c _ a C (classed .0),
+            (promised-to-c _ a C (ceiling .0), (promised-to-c _ a C (zeros .0), λ e. let plain = zeros .1 e in (C ∙ ap carried (plain .0), plain .1))),
+          ),
+        ),
+      ),
+    )
 
 pub poqewan-colussi-spec : {M : Type 1} → statement M
 poqewan-colussi-spec = tie.close (tie.spec (λ c κs. search needs) (λ c κs. search needs) (λ c. search needs) returns)

@@ -12,11 +12,27 @@ returns c =
     let a = at-search .kmp .result in
     let S = at-search .kmp .ensures in
     let C = c .carry .ensures in
-    let rest = S .1 .1 .1 in (
+    let located = S .1 .1 in
+    let classed = located .1 in
+    let ceiling = classed .1 in
+    let same = ceiling .1 in
+    let zeros = same .1 in (
       C ∙ ap carried (S .0),
       (
         S .1 .0,
-        (promised-to-c _ a C (S .1 .1 .0), (promised-to-c _ a C (rest .0), (promised-to-c _ a C (rest .1 .0), promised-to-c _ a C (rest .1 .1)))),
+        (
+          promised-to-c _ a C (located .0),
+          (
+            promised-to-c _ a C (classed .0),
+            (
+              promised-to-c _ a C (ceiling .0),
+              (
+                promised-to-c _ a C (same .0),
+                (promised-to-c _ a C (zeros .0), λ e. let plain = zeros .1 e in (C ∙ ap carried (plain .0), plain .1)),
+              ),
+            ),
+          ),
+        ),
       ),
     )
 

@@ -10,12 +10,12 @@ use Rattle.preparation.proofs.prepare.Tie as tie
 slice-relend-prefix-fill : tie.Need-slice-relend-prefix-fill
 slice-relend-prefix-fill c =
     let told = c .before .before .before .before in
-    omega (arith, room _ _ (told .before .before .outcome-of .ensures .0) (told .enum-told .given .1))
+    omega (arith, room _ _ _ (told .before .before .outcome-of .ensures .0) (told .enum-told .given .1))
 
 slice-aggregate-fill : tie.Need-slice-aggregate-fill
 slice-aggregate-fill c =
     let told = c .before .before .before .before .before in
-    simp length-take (omega (arith, room _ _ (told .before .before .outcome-of .ensures .0) (told .enum-told .given .1)))
+    simp length-take (omega (arith, room _ _ _ (told .before .before .outcome-of .ensures .0) (told .enum-told .given .1)))
 
 returns : tie.Need-returns
 returns c =
@@ -25,15 +25,15 @@ returns c =
     let tested = told .before .before .outcome-of .ensures .0 in
     let ready = told .enum-told .given .1 in
     let build = built .build in
-    let after = zeroed _ _ tested (build .last .1 .0) ready (build .ensures .1) (filled .fill .ensures) in
-    ensured _ _ (success _ _ tested ready (build .ensures .0)) after
+    let after = zeroed _ _ _ tested (build .last .1 .1 .0) ready (build .ensures .1) (filled .fill .ensures) in
+    ensured _ _ _ (success _ _ _ tested ready (build .ensures .0)) after
 
 returns-2 : tie.Need-returns-2
 returns-2 c =
     let outcome = c .before .before in
     let tested = outcome .before .before .outcome-of .ensures .0 in
     let told = outcome .outcome .given .1 in
-    ensured _ _ (refusal _ _ tested told (c .refused .ensures)) (kept _ _ tested told)
+    ensured _ _ _ (refusal _ _ _ tested told (c .refused .ensures)) (kept _ _ _ tested told)
 
 pub prepare-spec : {M : Type 1} → statement M
 prepare-spec =

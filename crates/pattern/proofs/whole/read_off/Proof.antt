@@ -1,5 +1,6 @@
 -- `whole::read_off` meets its contract: its fields are what the functions that it calls ensure. Assumes nothing.
 use Prim.Native.Nat.{ℕ}
+use native.Mathlib.Omega.{arith}
 use lib.ListN.{length-replicate}
 use borrow.Author.Needs.{needs}
 use Rattle.words.specs.Tables.{place, shift}
@@ -19,19 +20,19 @@ abbrev at-list : tie.After-whole-words → tie.After-list-noholes
 at-list c = c .before .before .before
 
 abbrev start : tie.After-list-noholes → tie.Start
-start c = c .before .before .before .before .before .before
+start c = c .before .before .before .before .before .before .before .before
 
 list-noholes-requires : tie.Need-list-noholes-requires
 list-noholes-requires c κs =
-    let begin = c .before .before .before .before .before in
-    let w = begin .args .bytes .now in
-    (begin .pre .0, (begin .pre .1, list-begins w (none-in w longestPattern (place w)) (none-in w ranks (shift w)) (length-replicate {A = ℕ} longestPattern 0)))
+    let begin = c .before .before .before .before .before .before .before in
+    let w = begin .args .letters .now in
+    (begin .pre .1 .0, (begin .pre .1 .1, list-begins w (none-in w longestPattern (place w)) (none-in w ranks (shift w)) (length-replicate {A = ℕ} longestPattern 0)))
 
 next-noholes-requires : tie.Need-next-noholes-requires
 next-noholes-requires c κs =
     let whole = c .before .before .before .before .before .before in
     let at = at-list whole in
-    (whole .whole-words .ensures, (askable _ _ _ (at .list-noholes .ensures .1) (start at .pre .0 .short), length-replicate {A = ℕ} ranks 0))
+    (whole .whole-words .ensures, (askable _ _ _ (at .list-noholes .ensures .1) (start at .pre .1 .0 .short), length-replicate {A = ℕ} ranks 0))
 
 list-holes-requires : tie.Need-list-holes-requires
 list-holes-requires c κs =
@@ -40,9 +41,9 @@ list-holes-requires c κs =
     let begin = start at in
     let words = at .list-noholes .ensures .0 in
     let L = at .list-noholes .ensures .1 in (
-      begin .pre .0,
+      begin .pre .1 .0,
       (
-        begin .pre .1,
+        begin .pre .1 .1,
         (
           record { words = words; sums = at-whole asked .whole-words .ensures },
           (
@@ -50,23 +51,31 @@ list-holes-requires c κs =
             record {
               order = L .order;
               shift = L .shift;
-              next = nexts-asked _ _ _ L (begin .pre .0 .short) words (asked .next-noholes .ensures);
+              next = nexts-asked _ _ _ L (begin .pre .1 .0 .short) words (asked .next-noholes .ensures);
             },
           ),
         ),
       ),
     )
 
+-- What was asked, before the bytes and the classes are copied.
+abbrev asked-for : tie.After-list-holes → tie.Start
+asked-for c = start (at-list (at-whole (c .before .before .before .before .before .before)))
+
 copied-requires : tie.Need-copied-requires
-copied-requires c κs = start (at-list (at-whole (c .before .before .before .before .before .before))) .pre .0 .short
+copied-requires c κs = let pre = asked-for c .pre in omega (arith, pre .0 .0, pre .1 .0 .short)
+
+copied-requires-2 : tie.Need-copied-requires-2
+copied-requires-2 c κs = omega (arith, asked-for (c .before) .pre .0 .1)
 
 returns : tie.Need-returns
 returns c =
-    let at = at-list (at-whole (c .before .before .before .before .before .before .before)) in
-    fields (start at .args .bytes .now) (all-listed _ _ _ (at .list-noholes .ensures .1)) (c .copied .ensures) (c .before .list-holes .ensures)
-    (at .list-noholes .ensures .0)
+    let holes = c .before .before in
+    let at = at-list (at-whole (holes .before .before .before .before .before .before)) in
+    fields _ _ _ (start at .pre .0 .1) (all-listed _ _ _ (at .list-noholes .ensures .1)) (c .before .copied .ensures) (c .copied2 .ensures)
+    (holes .list-holes .ensures) (at .list-noholes .ensures .0)
 
 pub read-off-spec : {M : Type 1} → statement M
 read-off-spec =
     tie.close
-    (tie.spec list-noholes-requires (λ c κs. search needs) next-noholes-requires list-holes-requires copied-requires returns)
+    (tie.spec list-noholes-requires (λ c κs. search needs) next-noholes-requires list-holes-requires copied-requires copied-requires-2 returns)

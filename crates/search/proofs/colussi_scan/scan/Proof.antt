@@ -1,14 +1,17 @@
 -- `search::colussi_scan::scan` meets its contract. The loop's invariant, `Scans`: the search goes by the loop's state. The measure: the turns
 -- that are left. Assumes nothing.
-use Prim.Native.Nat.{_≤_, _<_, _-_, _+_}
+use Prim.Native.Nat.{ℕ, _≤_, _<_, _-_, _+_}
 use mathlib.Core.Path.{_≡_, refl, ap}
 use mathlib.Core.Logic.{inl, ⊎-elim}
+use mathlib.Core.List.{List}
 use native.Mathlib.Omega.{arith}
 use lib.ListN.{length, take, getD}
 use borrow.Author.Needs.{needs}
 use borrow.Author.Tests.{eqb-true, ltb-true, leb-true}
 use denote.Ref.{now}
 use Rattle.words.proofs.Cases.{both-true}
+use Rattle.classes.specs.Classes.{through}
+use Rattle.classes.proofs.Through.{length-through}
 use Rattle.rules.specs.Colussi.{colussi-plan}
 use Rattle.rules.specs.Internal.Passing.{Established}
 use Rattle.rules.specs.Rules.{left}
@@ -20,16 +23,16 @@ use Rattle.search.proofs.colussi_scan.scan.Statement.{statement}
 use Rattle.search.proofs.colussi_scan.scan.Tie as tie
 
 abbrev Inv-loop : tie.InvT-loop
-Inv-loop bytes order shift next m d text cap positions₀ last first x b₀ i₀ e₀ c₀ k₀ positions b i e c k =
-    Scans (colussi-plan (take m bytes)) (take m bytes) text cap positions₀ positions b i e c k
+Inv-loop letters order shift next m d classes text cap positions₀ last first x b₀ i₀ e₀ c₀ k₀ positions b i e c k =
+    Scans (colussi-plan (take m letters)) (take m letters) (through classes text) cap positions₀ positions b i e c k
 
 abbrev μ-loop : tie.MeasureT-loop
-μ-loop bytes order shift next m d text cap positions₀ last first x b₀ i₀ e₀ c₀ k₀ positions b i e c k = left m (length text) b i
+μ-loop letters order shift next m d classes text cap positions₀ last first x b₀ i₀ e₀ c₀ k₀ positions b i e c k = left m (length (through classes text)) b i
 
 -- ---- Ways back from a place of the code
 
 abbrev entry : tie.At-loop Inv-loop μ-loop → tie.Start Inv-loop μ-loop
-entry c = c .before .before .before .before .before .before .before .before .before .before .before
+entry c = c .before .before .before .before .before .before .before .before .before .before .before .before
 
 -- The text has a window.
 abbrev long : tie.At-loop Inv-loop μ-loop → tie.Else1 Inv-loop μ-loop
@@ -47,13 +50,20 @@ place-loop c = due-loop (c .before .before)
 
 -- The cap allowed the comparison.
 abbrev allowed : tie.After-agree Inv-loop μ-loop → tie.Else3 Inv-loop μ-loop
-allowed c = c .before .before .before
+allowed c = c .before .before
 
 abbrev agree-loop : tie.After-agree Inv-loop μ-loop → tie.At-loop Inv-loop μ-loop
 agree-loop c = place-loop (allowed c .before)
 
 abbrev leave-loop : tie.After-leave Inv-loop μ-loop → tie.At-loop Inv-loop μ-loop
 leave-loop c = agree-loop (c .before .before)
+
+-- The text's letters.
+abbrev text-of : tie.Start Inv-loop μ-loop → List ℕ
+text-of c = through (now (c .args .classes)) (now (c .args .text))
+
+text-length : (c : tie.Start Inv-loop μ-loop) → length (text-of c) ≡ length (now (c .args .text))
+text-length c = length-through (now (c .args .classes)) (now (c .args .text))
 
 -- ---- In the loop
 
@@ -63,8 +73,12 @@ first-inside c = in-window _ _ _ _ (entry c .pre .0) 0 (first c .wide8 .result) 
 
 -- The rank and the window are in range.
 inside : (c : tie.In-loop Inv-loop μ-loop)
-    → (let args = entry (c .before) .args in (c .before .loop .i ≤ args .m) × (c .before .loop .b + args .m ≤ length (now (args .text))))
-inside c = omega (arith, rank-upto (c .before .loop .inv), word-length _ _ _ _ (entry (c .before) .pre .0), c .loop-test .taken, long (c .before) .if1 .left)
+    → (let args = entry (c .before) .args in
+    let loop = c .before .loop in
+    (loop .i ≤ args .m) × (loop .b + args .m ≤ length (text-of (entry (c .before)))) × (loop .b + args .m ≤ length (now (args .text))))
+inside c =
+    let E = entry (c .before) in
+    omega (arith, rank-upto (c .before .loop .inv), word-length _ _ _ _ (E .pre .0), c .loop-test .taken, long (c .before) .if1 .left, text-length E)
 
 -- A comparison is due.
 is-due : (c : tie.Then2 Inv-loop μ-loop)
@@ -89,7 +103,8 @@ missed : (c : tie.After-leave Inv-loop μ-loop)
     → (let at-loop = leave-loop c in
     let args = entry at-loop .args in
     let after = c .leave .result in
-    Scans (colussi-plan (take (args .m) (now (args .bytes)))) (take (args .m) (now (args .bytes))) (now (args .text)) (args .cap) (now (args .positions))
+    let w = take (args .m) (now (args .letters)) in
+    Scans (colussi-plan w) w (text-of (entry at-loop)) (args .cap) (now (args .positions))
     (at-loop .loop .positions) (after .window) (after .rank) (after .edge) (at-loop .loop .c + 1) (at-loop .loop .k))
 missed c =
     let differs = c .before in
@@ -104,9 +119,10 @@ missed c =
 
 missed-less : (c : tie.After-leave Inv-loop μ-loop)
     → (let at-loop = leave-loop c in
-    let args = entry at-loop .args in
+    let m = entry at-loop .args .m in
+    let n = length (text-of (entry at-loop)) in
     let after = c .leave .result in
-    left (args .m) (length (now (args .text))) (after .window) (after .rank) < left (args .m) (length (now (args .text))) (at-loop .loop .b) (at-loop .loop .i))
+    left m n (after .window) (after .rank) < left m n (at-loop .loop .b) (at-loop .loop .i))
 missed-less c =
     let now-due = allowed (c .before .before) .before .before .before in
     let at-loop = due-loop now-due in
@@ -128,7 +144,7 @@ lead c =
 occurs : (c : tie.Else2 Inv-loop μ-loop)
     → (let at-loop = c .before .before .before in
     let args = entry at-loop .args in
-    Established (colussi-plan (take (args .m) (now (args .bytes)))) (at-loop .loop .b) (at-loop .loop .i) (at-loop .loop .e))
+    Established (colussi-plan (take (args .m) (now (args .letters)))) (at-loop .loop .b) (at-loop .loop .i) (at-loop .loop .e))
 occurs c =
     let in-loop = c .before .before in
     let at-loop = in-loop .before in
@@ -143,15 +159,15 @@ occurs c =
 returns : tie.Need-returns Inv-loop μ-loop
 returns c =
     let short = c .before in
-    let entry = short .before .before .before .before .before .before .before in
+    let E = short .before .before .before .before .before .before .before .before in
     rw (c .ended .ensures)
-    (scan-done _ _ _ _ (entry .pre .0) (scans-start _ _ (now (entry .args .text)) _ (now (entry .args .positions))) (omega (arith, short .if1 .taken)))
+    (scan-done _ _ _ _ (E .pre .0) (scans-start _ _ (text-of E) _ (now (E .args .positions))) (omega (arith, short .if1 .taken, text-length E)))
 
 shared-slice-read-x : tie.Need-shared-slice-read-x Inv-loop μ-loop
 shared-slice-read-x c =
     let read = c .before in
-    let T = read .before .before .before .before .before .before .before .before .before .pre .0 in
-    omega (arith, in-window _ _ _ _ T 0 (read .wide8 .result) (T .some) (read .wide8 .ensures .0), T .length-bytes)
+    let T = read .before .before .before .before .before .before .before .before .before .before .pre .0 in
+    omega (arith, in-window _ _ _ _ T 0 (read .wide8 .result) (T .some) (read .wide8 .ensures .0), T .length-letters)
 
 returns-2 : tie.Need-returns-2 Inv-loop μ-loop
 returns-2 c =
@@ -164,6 +180,9 @@ returns-2 c =
 
 add-c : tie.Need-add-c Inv-loop μ-loop
 add-c c = let at-loop = place-loop (c .before) in omega (arith, capped (at-loop .loop .inv), c .if3 .left, entry at-loop .fits .cap)
+
+agree-requires : tie.Need-agree-requires Inv-loop μ-loop
+agree-requires c κs = let at-place = c .before .before in (entry (place-loop at-place) .pre .1 .1 .0, place-in-text at-place)
 
 loop-again : tie.Need-loop-again Inv-loop μ-loop
 loop-again c =
@@ -187,27 +206,32 @@ add-if6 c =
 
 ahead-requires : tie.Need-ahead-requires Inv-loop μ-loop
 ahead-requires c κs =
-    let at-loop = leave-loop (c .before .before) in
-    omega (arith, lead (c .before) .2, first-inside at-loop, long at-loop .if1 .left, entry at-loop .pre .1 .1, capped (missed (c .before .before)))
+    let at-lead = c .before in
+    let at-leave = at-lead .before in
+    let at-loop = leave-loop at-leave in
+    let lent = entry at-loop .pre .1 .1 in
+    (lent .0, omega (arith, lead at-lead .2, first-inside at-loop, long at-loop .if1 .left, lent .1, capped (missed at-leave)))
 
 loop-less-2 : tie.Need-loop-less-2 Inv-loop μ-loop
 loop-less-2 c =
-    let at-leave = c .before .before .before in
-    let args = entry (leave-loop at-leave) .args in
+    let at-lead = c .before .before in
+    let at-leave = at-lead .before in
+    let E = entry (leave-loop at-leave) in
     let after = at-leave .leave .result in
     let spot = c .ahead .result in
     omega (
       arith,
       missed-less at-leave,
-      no-more (args .m) (length (now (args .text))) (after .window) (after .rank) (spot .window) (spot .rank) (lead (c .before .before) .0) (c .ahead .ensures .from),
+      no-more (E .args .m) (length (text-of E)) (after .window) (after .rank) (spot .window) (spot .rank) (lead at-lead .0) (c .ahead .ensures .from),
     )
 
 loop-again-2 : tie.Need-loop-again-2 Inv-loop μ-loop
 loop-again-2 c =
-    let at-leave = c .before .before .before in
+    let at-lead = c .before .before in
+    let at-leave = at-lead .before in
     let at-loop = leave-loop at-leave in
-    let L = lead (c .before .before) in
-    scan-ahead _ _ _ _ (entry at-loop .pre .0) (missed at-leave) (c .ahead .ensures) (omega (arith, long at-loop .if1 .left))
+    let L = lead at-lead in
+    scan-ahead _ _ _ _ (entry at-loop .pre .0) (missed at-leave) (c .ahead .ensures) (omega (arith, long at-loop .if1 .left, text-length (entry at-loop)))
     (L .0) (L .1) (first at-loop .wide8 .ensures .0) refl (c .before .if6 .taken)
 
 returns-3 : tie.Need-returns-3 Inv-loop μ-loop
@@ -245,7 +269,7 @@ returns-4 c =
     let past = c .before in
     let at-loop = past .before in
     rw (c .ended4 .ensures)
-    (scan-done _ _ _ _ (entry at-loop .pre .0) (at-loop .loop .inv) (omega (arith, past .loop-test .left, long at-loop .if1 .left)))
+    (scan-done _ _ _ _ (entry at-loop .pre .0) (at-loop .loop .inv) (omega (arith, past .loop-test .left, long at-loop .if1 .left, text-length (entry at-loop))))
 
 pub scan-spec : {M : Type 1} → statement M
 scan-spec =
@@ -267,10 +291,9 @@ scan-spec =
     (λ c. search needs)
     returns-2
     add-c
-    (λ c. let at-place = c .before .before in omega (arith, place-inside at-place, entry (place-loop at-place) .pre .0 .length-bytes))
+    (λ c. let at-place = c .before .before in omega (arith, place-inside at-place, entry (place-loop at-place) .pre .0 .length-letters))
     (λ c. let at-place = c .before .before in omega (arith, place-in-text at-place, entry (place-loop at-place) .pre .1 .1))
-    (λ c. place-in-text (c .before .before .before))
-    (λ c κs. search needs)
+    agree-requires
     (λ c. let now-due = allowed (c .before) .before .before .before in omega (arith, is-due now-due .0, entry (due-loop now-due) .fits .m))
     (λ c. omega (arith, is-due (allowed (c .before) .before .before .before) .0))
     loop-again

@@ -1,7 +1,8 @@
 -- `search::kmp_scan::scan` meets its contract. The loop's invariant, `Scans`: the search goes by the loop's state. The measure: the turns
 -- that are left. Assumes nothing.
-use Prim.Native.Nat.{_≤_, _<_, _-_, _+_}
+use Prim.Native.Nat.{ℕ, _≤_, _<_, _-_, _+_}
 use mathlib.Core.Path.{_≡_, refl}
+use mathlib.Core.List.{List}
 use native.Mathlib.Omega.{arith}
 use lib.ListN.{length, take}
 use lib.Seq.{length-take-le}
@@ -9,6 +10,8 @@ use borrow.Author.Needs.{needs}
 use borrow.Author.Tests.{eqb-true, leb-true}
 use denote.Ref.{now}
 use Rattle.words.proofs.Cases.{both-true}
+use Rattle.classes.specs.Classes.{through}
+use Rattle.classes.proofs.Through.{length-through}
 use Rattle.rules.specs.Kmp.{kmp-plan}
 use Rattle.rules.specs.Rules.{left}
 use Rattle.rules.proofs.Rules.{fewer, no-more}
@@ -18,20 +21,20 @@ use Rattle.search.proofs.kmp_scan.scan.Statement.{statement}
 use Rattle.search.proofs.kmp_scan.scan.Tie as tie
 
 abbrev Inv-loop : tie.InvT-loop
-Inv-loop bytes m text cap positions₀ shifts last b₀ i₀ c₀ k₀ positions b i c k =
-    Scans (kmp-plan (take m bytes)) (take m bytes) text cap positions₀ positions b i 0 c k
+Inv-loop letters m classes text cap positions₀ shifts last b₀ i₀ c₀ k₀ positions b i c k =
+    Scans (kmp-plan (take m letters)) (take m letters) (through classes text) cap positions₀ positions b i 0 c k
 
 abbrev μ-loop : tie.MeasureT-loop
-μ-loop bytes m text cap positions₀ shifts last b₀ i₀ c₀ k₀ positions b i c k = left m (length text) b i
+μ-loop letters m classes text cap positions₀ shifts last b₀ i₀ c₀ k₀ positions b i c k = left m (length (through classes text)) b i
 
 -- ---- Ways back from a place of the code
 
 abbrev entry : tie.At-loop Inv-loop μ-loop → tie.Start Inv-loop μ-loop
-entry c = c .before .before .before .before .before
+entry c = c .before .before .before .before .before .before
 
 -- The cap allowed the comparison.
 abbrev allowed : tie.After-agree Inv-loop μ-loop → tie.Else3 Inv-loop μ-loop
-allowed c = c .before .before .before
+allowed c = c .before .before
 
 -- A letter was left to compare.
 abbrev compares : tie.After-agree Inv-loop μ-loop → tie.Then2 Inv-loop μ-loop
@@ -40,17 +43,27 @@ compares c = allowed c .before
 abbrev shift-loop : tie.After-wide16 Inv-loop μ-loop → tie.At-loop Inv-loop μ-loop
 shift-loop c = compares (c .before .before) .before .before
 
+-- The text's letters.
+abbrev text-of : tie.Start Inv-loop μ-loop → List ℕ
+text-of c = through (now (c .args .classes)) (now (c .args .text))
+
+text-length : (c : tie.Start Inv-loop μ-loop) → length (text-of c) ≡ length (now (c .args .text))
+text-length c = length-through (now (c .args .classes)) (now (c .args .text))
+
 -- ---- In the loop
 
 -- The matched length and the window are in range.
 inside : (c : tie.In-loop Inv-loop μ-loop)
-    → (let args = entry (c .before) .args in (c .before .loop .i ≤ args .m) × (c .before .loop .b + args .m ≤ length (now (args .text))))
+    → (let args = entry (c .before) .args in
+    let loop = c .before .loop in
+    (loop .i ≤ args .m) × (loop .b + args .m ≤ length (text-of (entry (c .before)))) × (loop .b + args .m ≤ length (now (args .text))))
 inside c =
     let E = entry (c .before) in
     omega (
       arith,
       rank-upto (c .before .loop .inv),
-      length-take-le (E .args .m) (now (E .args .bytes)) (E .pre .0 .2),
+      length-take-le (E .args .m) (now (E .args .letters)) (E .pre .0 .2),
+      text-length E,
       c .loop-test .taken,
       c .before .before .if1 .left,
     )
@@ -59,7 +72,7 @@ inside c =
 missed : (c : tie.After-minus Inv-loop μ-loop)
     → (let at-loop = shift-loop (c .before) in
     let args = entry at-loop .args in
-    Scans (kmp-plan (take (args .m) (now (args .bytes)))) (take (args .m) (now (args .bytes))) (now (args .text)) (args .cap) (now (args .positions))
+    Scans (kmp-plan (take (args .m) (now (args .letters)))) (take (args .m) (now (args .letters))) (text-of (entry at-loop)) (args .cap) (now (args .positions))
     (at-loop .loop .positions) (at-loop .loop .b + c .before .wide16 .result) (c .minus .result) 0 (at-loop .loop .c + 1) (at-loop .loop .k))
 missed c =
     let differs = c .before .before in
@@ -72,9 +85,9 @@ missed c =
 
 missed-less : (c : tie.After-minus Inv-loop μ-loop)
     → (let at-loop = shift-loop (c .before) in
-    let args = entry at-loop .args in
-    left (args .m) (length (now (args .text))) (at-loop .loop .b + c .before .wide16 .result) (c .minus .result)
-    < left (args .m) (length (now (args .text))) (at-loop .loop .b) (at-loop .loop .i))
+    let m = entry at-loop .args .m in
+    let n = length (text-of (entry at-loop)) in
+    left m n (at-loop .loop .b + c .before .wide16 .result) (c .minus .result) < left m n (at-loop .loop .b) (at-loop .loop .i))
 missed-less c =
     let in-loop = compares (c .before .before .before) .before in
     let E = entry (in-loop .before) in
@@ -93,10 +106,10 @@ lead c = let both = both-true _ _ (c .if5 .taken) in (eqb-true _ _ (both .0), le
 returns : tie.Need-returns Inv-loop μ-loop
 returns c =
     let short = c .before in
-    let entry = short .before .before .before .before in
+    let E = short .before .before .before .before .before in
     rw (c .ended .ensures)
-    (scan-done _ _ _ (entry .pre .0) (entry .pre .1 .0) (scans-start _ _ (now (entry .args .text)) _ (now (entry .args .positions)))
-    (omega (arith, short .if1 .taken)))
+    (scan-done _ _ _ (E .pre .0) (E .pre .1 .0) (scans-start _ _ (text-of E) _ (now (E .args .positions)))
+    (omega (arith, short .if1 .taken, text-length E)))
 
 returns-2 : tie.Need-returns-2 Inv-loop μ-loop
 returns-2 c =
@@ -108,6 +121,11 @@ returns-2 c =
 
 add-c : tie.Need-add-c Inv-loop μ-loop
 add-c c = let at-loop = c .before .before .before in omega (arith, capped (at-loop .loop .inv), c .if3 .left, entry at-loop .fits .cap)
+
+agree-requires : tie.Need-agree-requires Inv-loop μ-loop
+agree-requires c κs =
+    let compares = c .before .before in
+    (entry (compares .before .before) .pre .1 .1 .0, omega (arith, compares .if2 .taken, inside (compares .before)))
 
 loop-again : tie.Need-loop-again Inv-loop μ-loop
 loop-again c =
@@ -123,18 +141,19 @@ ahead-requires c κs =
     let at-minus = c .before .before in
     let at-loop = shift-loop (at-minus .before) in
     let E = entry at-loop in
-    omega (arith, lead (c .before) .1, at-loop .before .if1 .left, E .pre .0 .0, E .pre .1 .1, capped (missed at-minus))
+    let lent = E .pre .1 .1 in
+    (lent .0, omega (arith, lead (c .before) .1, at-loop .before .if1 .left, E .pre .0 .0, lent .1, capped (missed at-minus)))
 
 loop-less-2 : tie.Need-loop-less-2 Inv-loop μ-loop
 loop-less-2 c =
     let at-minus = c .before .before .before in
     let at-loop = shift-loop (at-minus .before) in
-    let args = entry at-loop .args in
+    let E = entry at-loop in
     let spot = c .ahead .result in
     omega (
       arith,
       missed-less at-minus,
-      no-more (args .m) (length (now (args .text))) (at-loop .loop .b + at-minus .before .wide16 .result) (at-minus .minus .result) (spot .window) (spot .rank)
+      no-more (E .args .m) (length (text-of E)) (at-loop .loop .b + at-minus .before .wide16 .result) (at-minus .minus .result) (spot .window) (spot .rank)
           (lead (c .before .before) .0) (c .ahead .ensures .from),
     )
 
@@ -143,7 +162,7 @@ loop-again-2 c =
     let at-minus = c .before .before .before in
     let at-loop = shift-loop (at-minus .before) in
     let E = entry at-loop in
-    scan-ahead _ _ _ (E .pre .0) (E .pre .1 .0) (missed at-minus) (c .ahead .ensures) (omega (arith, at-loop .before .if1 .left)) (lead (c .before .before) .0) refl
+    scan-ahead _ _ _ (E .pre .0) (E .pre .1 .0) (missed at-minus) (c .ahead .ensures) (omega (arith, at-loop .before .if1 .left, text-length E)) (lead (c .before .before) .0) refl
 
 returns-3 : tie.Need-returns-3 Inv-loop μ-loop
 returns-3 c =
@@ -174,7 +193,7 @@ returns-4 c =
     let at-loop = past .before in
     let E = entry at-loop in
     rw (c .ended4 .ensures)
-    (scan-done _ _ _ (E .pre .0) (E .pre .1 .0) (at-loop .loop .inv) (omega (arith, past .loop-test .left, at-loop .before .if1 .left)))
+    (scan-done _ _ _ (E .pre .0) (E .pre .1 .0) (at-loop .loop .inv) (omega (arith, past .loop-test .left, at-loop .before .if1 .left, text-length E)))
 
 pub scan-spec : {M : Type 1} → statement M
 scan-spec =
@@ -192,8 +211,7 @@ scan-spec =
     add-c
     (λ c. let compares = c .before .before in omega (arith, compares .if2 .taken, entry (compares .before .before) .pre .0))
     (λ c. let compares = c .before .before in omega (arith, compares .if2 .taken, inside (compares .before), entry (compares .before .before) .pre .1 .1))
-    (λ c. let compares = c .before .before .before in omega (arith, compares .if2 .taken, inside (compares .before)))
-    (λ c κs. search needs)
+    agree-requires
     (λ c. search needs)
     (λ c. search needs)
     loop-again
