@@ -6,36 +6,18 @@ mod oracle;
 use common::classes::{
     directions, joined, letters, one_but_0, shuffled, with_classes, Classes, Drawn,
 };
+use common::worked::{row, Row, LONG, NO_CAP};
 use common::{
     changed, check_preparation, preparation, prepared, repeated, words, Method, Random, Trial,
     UNWRITTEN,
 };
 use oracle::{identity, CLASSES, LONGEST_PATTERN, SCRATCH};
-use poqewan::Ending::{self, Done, Full, Spent};
+use poqewan::Ending::{Done, Full, Spent};
 use poqewan::{Pattern, Report, LONGEST_TEXT};
 
 /// c has the class of b.
 fn c_in_b() -> Classes {
     joined(b'c', b'b')
-}
-
-const NO_CAP: u64 = u64::MAX;
-/// A list that is long enough.
-const LONG: usize = 16;
-
-/// A pattern with a cap and a list, in a text.
-struct Row {
-    classes: fn() -> Classes,
-    pattern: &'static [u8],
-    text: &'static [u8],
-    cap: u64,
-    list_len: usize,
-    positions: &'static [u32],
-    /// Of the search in Colussi's order.
-    ending: Ending,
-    count: u64,
-    /// Where the document gives it, or it is worked too.
-    kmp_count: Option<u64>,
 }
 
 /// First document 01's worked records, spelled in small and capital letters. Then records worked by
@@ -64,50 +46,9 @@ const ROWS: [Row; 19] = [
     row(directions, b"\x01\x25\x0F", b"\x0E\x2F\x01\0\x0B\x22\x01", NO_CAP, LONG, &[0, 4], Done, 8, Some(8)),
 ];
 
-#[allow(clippy::too_many_arguments)] // The columns of the table.
-const fn row(
-    classes: fn() -> Classes,
-    pattern: &'static [u8],
-    text: &'static [u8],
-    cap: u64,
-    list_len: usize,
-    positions: &'static [u32],
-    ending: Ending,
-    count: u64,
-    kmp_count: Option<u64>,
-) -> Row {
-    Row {
-        classes,
-        pattern,
-        text,
-        cap,
-        list_len,
-        positions,
-        ending,
-        count,
-        kmp_count,
-    }
-}
-
 #[test]
 fn every_row_has_the_result_worked_by_hand() {
-    for row in &ROWS {
-        let [pattern, text] = [row.pattern, row.text].map(<[u8]>::escape_ascii);
-        let case = format!("{pattern} in {text}, cap {}", row.cap);
-        let mut trial = Trial::with_classes(row.pattern, &(row.classes)());
-        let [_, kmp] = trial.check(row.text, row.cap, row.list_len);
-
-        let mut list = vec![UNWRITTEN; row.list_len];
-        let report = Method::Colussi
-            .run(trial.pattern(), row.text, row.cap, &mut list)
-            .expect("the pattern is prepared and the text short");
-        assert_eq!(report.ending, row.ending, "{case}");
-        assert_eq!(report.count, row.count, "{case}");
-        assert_eq!(&list[..report.written], row.positions, "{case}");
-        if let Some(count) = row.kmp_count {
-            assert_eq!(kmp.count, count, "{case}");
-        }
-    }
+    ROWS.iter().for_each(Row::check);
 }
 
 /// What preparation gives: the number of noholes, the tables and the cost.

@@ -3,85 +3,30 @@
 mod common;
 mod oracle;
 
-use common::{Method, Trial, UNWRITTEN};
-use oracle::LONGEST_PATTERN;
-use poqewan::Ending::{self, Done, Full, Spent};
+use common::worked::{row, Row, LONG, NO_CAP};
+use common::Trial;
+use oracle::{identity, LONGEST_PATTERN};
+use poqewan::Ending::{Done, Full, Spent};
 
-const NO_CAP: u64 = u64::MAX;
-/// A list that is long enough.
-const LONG: usize = 16;
-
-/// A row of the document: a pattern with a cap and a list, in a text.
-struct Row {
-    pattern: &'static str,
-    text: &'static str,
-    cap: u64,
-    list_len: usize,
-    positions: &'static [u32],
-    /// Of the search in Colussi's order.
-    ending: Ending,
-    count: u64,
-    /// Where the document gives it.
-    kmp_count: Option<u64>,
-}
-
+/// The rows of the document.
 #[rustfmt::skip]
 const ROWS: [Row; 11] = [
-    row("a", "aab", NO_CAP, LONG, &[0, 1], Done, 3, None),
-    row("aa", "aaaa", NO_CAP, LONG, &[0, 1, 2], Done, 4, None),
-    row("ab", "aaaa", NO_CAP, LONG, &[], Done, 3, Some(6)),
-    row("aba", "ababa", NO_CAP, LONG, &[0, 2], Done, 5, None),
-    row("aba", "ababa", 3, LONG, &[0], Spent(2), 3, None),
-    row("aba", "ababa", 4, LONG, &[0], Spent(2), 4, None),
-    row("aba", "ababa", 5, LONG, &[0, 2], Done, 5, None),
-    row("aba", "ababa", NO_CAP, 1, &[0], Full(2), 5, None),
-    row("aabaa", "aabaaaabaa", NO_CAP, LONG, &[0, 5], Done, 12, Some(12)),
-    row("aba", "ab", 0, LONG, &[], Done, 0, None),
-    row("aba", "aba", 0, LONG, &[], Spent(0), 0, None),
+    row(identity, b"a", b"aab", NO_CAP, LONG, &[0, 1], Done, 3, None),
+    row(identity, b"aa", b"aaaa", NO_CAP, LONG, &[0, 1, 2], Done, 4, None),
+    row(identity, b"ab", b"aaaa", NO_CAP, LONG, &[], Done, 3, Some(6)),
+    row(identity, b"aba", b"ababa", NO_CAP, LONG, &[0, 2], Done, 5, None),
+    row(identity, b"aba", b"ababa", 3, LONG, &[0], Spent(2), 3, None),
+    row(identity, b"aba", b"ababa", 4, LONG, &[0], Spent(2), 4, None),
+    row(identity, b"aba", b"ababa", 5, LONG, &[0, 2], Done, 5, None),
+    row(identity, b"aba", b"ababa", NO_CAP, 1, &[0], Full(2), 5, None),
+    row(identity, b"aabaa", b"aabaaaabaa", NO_CAP, LONG, &[0, 5], Done, 12, Some(12)),
+    row(identity, b"aba", b"ab", 0, LONG, &[], Done, 0, None),
+    row(identity, b"aba", b"aba", 0, LONG, &[], Spent(0), 0, None),
 ];
-
-#[allow(clippy::too_many_arguments)] // The columns of the document's table.
-const fn row(
-    pattern: &'static str,
-    text: &'static str,
-    cap: u64,
-    list_len: usize,
-    positions: &'static [u32],
-    ending: Ending,
-    count: u64,
-    kmp_count: Option<u64>,
-) -> Row {
-    Row {
-        pattern,
-        text,
-        cap,
-        list_len,
-        positions,
-        ending,
-        count,
-        kmp_count,
-    }
-}
 
 #[test]
 fn every_row_has_the_result_of_the_document() {
-    for row in &ROWS {
-        let case = format!("{} in {}, cap {}", row.pattern, row.text, row.cap);
-        let text = row.text.as_bytes();
-        let mut trial = Trial::of(row.pattern.as_bytes());
-        let [_, kmp] = trial.check(text, row.cap, row.list_len);
-
-        let mut list = vec![UNWRITTEN; row.list_len];
-        let report = Method::Colussi
-            .run(trial.pattern(), text, row.cap, &mut list)
-            .expect("the pattern is prepared and the text short");
-        assert_eq!(report.ending, row.ending, "{case}");
-        assert_eq!(report.count, row.count, "{case}");
-        assert_eq!(&list[..report.written], row.positions, "{case}");
-        if let Some(count) = row.kmp_count {
-            assert_eq!(kmp.count, count, "{case}");
-        }
-    }
+    ROWS.iter().for_each(Row::check);
 }
 
 #[test]

@@ -71,12 +71,12 @@ fn read_off<'a>(
         &mut next,
     );
     let own = copied(bytes);
-    let charted = copied(classes);
+    let kept = copied(classes);
     Pattern {
         len: bytes.len(),
         noholes,
         bytes: own,
-        classes: charted,
+        classes: kept,
         order,
         shift,
         next,

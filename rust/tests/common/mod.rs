@@ -3,6 +3,7 @@
 #![allow(dead_code)] // Each test file uses a part of it.
 
 pub mod classes;
+pub mod worked;
 
 use crate::oracle::{self, Tables, CLASSES};
 use poqewan::{Ending, Pattern, Preparation, Refusal, Report, SCRATCH};
