@@ -1,4 +1,4 @@
-// The test behind refusal 4: a pattern's own bytes are prepared again through its classes, and every field is compared.
+// The test behind refusal 4: a pattern's own bytes are prepared again through its own classes, and all other fields are compared.
 mod fields;
 
 use pattern::Pattern;

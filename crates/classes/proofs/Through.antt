@@ -3,7 +3,7 @@ use Prim.Native.Nat.{ℕ, zero, suc, _<_}
 use mathlib.Core.Path.{_≡_, refl, sym, ap, _∙_}
 use mathlib.Core.List.{List, [], _∷_, map}
 use native.Mathlib.Omega.{arith}
-use lib.ListN.{length, getD, take, length-map}
+use lib.ListN.{length, getD, length-map}
 use Rattle.words.specs.Tables.{letter}
 use Rattle.classes.specs.Classes.{classOf, through}
 
@@ -26,11 +26,6 @@ map-at f [] p l = absurd (omega arith)
 map-at f (x ∷ w) zero l = refl
 map-at f (x ∷ w) (suc p) l = map-at f w p (omega arith)
 
-map-take : (f : ℕ → ℕ) (n : ℕ) (w : List ℕ) → take n (map f w) ≡ map f (take n w)
-map-take f zero w = refl
-map-take f (suc n) [] = refl
-map-take f (suc n) (x ∷ w) = ap (λ (l : List ℕ). f x ∷ l) (map-take f n w)
-
 module _ (c : List ℕ) where
   pub length-through : (w : List ℕ) → length (through c w) ≡ length w
   unfolding through
@@ -39,7 +34,3 @@ module _ (c : List ℕ) where
   pub through-at : (w : List ℕ) (p : ℕ) → p < length w → letter (through c w) p ≡ classOf c (letter w p)
   unfolding through
   through-at w p l = map-at (classOf c) w p l
-
-  pub through-take : (n : ℕ) (w : List ℕ) → take n (through c w) ≡ through c (take n w)
-  unfolding through
-  through-take n w = map-take (classOf c) n w
