@@ -3,10 +3,15 @@
 #include <poqewan.h>
 #include <string.h>
 
-static bool same_report(const struct report *a, const struct report *b)
+static bool same_columns(const struct report *a, const struct report *b)
+{
+    return a->at_noholes == b->at_noholes && a->at_holes == b->at_holes;
+}
+
+static bool same_report(const struct report *a, const struct report *b, bool columns)
 {
     return a->refusal == b->refusal && a->ending == b->ending && a->window == b->window && a->count == b->count
-        && a->written == b->written;
+        && a->written == b->written && (!columns || same_columns(a, b));
 }
 
 struct answers {
@@ -27,11 +32,11 @@ static struct answers ask(search_function *a, search_function *b, const struct s
     return answers;
 }
 
-static bool agree(search_function *a, search_function *b, const struct subject *subject, uint64_t cap, size_t room,
+static bool agree(search_function *a, search_function *b, bool columns, const struct subject *subject, uint64_t cap, size_t room,
                   struct lists lists)
 {
     struct answers answers = ask(a, b, subject, cap, room, lists);
-    return same_report(&answers.one, &answers.other) && answers.listed_alike;
+    return same_report(&answers.one, &answers.other, columns) && answers.listed_alike;
 }
 
 bool list_alike(search_function *a, search_function *b, const struct subject *subject, struct lists lists)
@@ -39,12 +44,14 @@ bool list_alike(search_function *a, search_function *b, const struct subject *su
     return ask(a, b, subject, UINT64_MAX, subject->n, lists).listed_alike;
 }
 
-static bool searches_agree(search_function *a, search_function *b, const struct subject *subject, struct lists lists)
+static bool searches_agree(search_function *a, search_function *b, bool columns, const struct subject *subject,
+                           struct lists lists)
 {
     struct report whole;
     a(subject->prepared[OURS], subject, UINT64_MAX, lists.one, subject->n, &whole);
-    return agree(a, b, subject, UINT64_MAX, subject->n, lists) && agree(a, b, subject, whole.count / 2, subject->n, lists)
-        && agree(a, b, subject, UINT64_MAX, whole.written / 2, lists);
+    return agree(a, b, columns, subject, UINT64_MAX, subject->n, lists)
+        && agree(a, b, columns, subject, whole.count / 2, subject->n, lists)
+        && agree(a, b, columns, subject, UINT64_MAX, whole.written / 2, lists);
 }
 
 static bool same_tables(const struct tables *a, const struct tables *b)
@@ -72,6 +79,8 @@ static bool prepare_alike(const struct version *a, const struct version *b, cons
 
 bool versions_agree(const struct version *a, const struct version *b, const struct subject *subject, struct lists lists)
 {
-    return searches_agree(a->colussi, b->colussi, subject, lists) && searches_agree(a->kmp, b->kmp, subject, lists)
+    const bool columns = a->has_columns && b->has_columns;
+    return searches_agree(a->colussi, b->colussi, columns, subject, lists)
+        && searches_agree(a->kmp, b->kmp, columns, subject, lists)
         && (b->prepare == NULL || (prepare_alike(a, b, subject) && a->charge(subject->n) == b->charge(subject->n)));
 }

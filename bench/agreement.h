@@ -10,7 +10,8 @@ struct lists {
 };
 
 /* Whether our version and the other report and list the same, by each search; also with half the comparisons and with half the
-   list, where both are cut off. If the other prepares patterns, it must do that like ours, and give the same charge. */
+   list, where both are cut off. Columns are compared if both report them. If the other prepares patterns, it must do that like
+   ours, and give the same charge. */
 bool versions_agree(const struct version *a, const struct version *b, const struct subject *subject, struct lists lists);
 
 /* Whether two searches of the whole text list the same: one of ours; and one of the other side, or that needs nothing prepared. */

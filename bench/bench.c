@@ -6,8 +6,8 @@
  * It exits with 1 if two searches differ in an answer, and then measures nothing. A missed target is printed and no more: times
  * depend on the machine.
  */
-#include "rows.h"
 #include "uncounted.h"
+#include "verdicts.h"
 
 #include <inttypes.h>
 #include <math.h>
@@ -163,33 +163,6 @@ static void growths(void)
 
 /* The summary. Ratios are by the fastest tenth. */
 
-static double ratio_of(const struct row *row, int search)
-{
-    return row->trial[search].times[OTHER].ratios[TENTH];
-}
-
-/* Of the text rows of some kinds, one after the other. */
-struct range {
-    const struct row *least, *greatest;
-    size_t rows, missed;
-};
-
-static struct range range_of(size_t kind, size_t count, int search, double target)
-{
-    struct range range = {NULL, NULL, 0, 0};
-    for (const struct row *row = rows; row < rows + TEXTS; row++) {
-        if (row->input.kind < &kinds[kind] || row->input.kind >= &kinds[kind] + count)
-            continue;
-        range.rows++;
-        range.missed += ratio_of(row, search) < target;
-        if (range.least == NULL || ratio_of(row, search) < ratio_of(range.least, search))
-            range.least = row;
-        if (range.greatest == NULL || ratio_of(row, search) > ratio_of(range.greatest, search))
-            range.greatest = row;
-    }
-    return range;
-}
-
 static void ratios_by_kind(void)
 {
     puts("\n## Ratios by kind\n\n"
@@ -201,31 +174,6 @@ static void ratios_by_kind(void)
         printf("| %-21s | %4.2f to %4.2f    | %4.2f to %4.2f       |\n", kinds[k].name, ratio_of(of_colussi.least, COLUSSI),
                ratio_of(of_colussi.greatest, COLUSSI), ratio_of(of_kmp.least, KMP), ratio_of(of_kmp.greatest, KMP));
     }
-}
-
-static const char *word(bool holds)
-{
-    return holds ? "holds" : "FAILS";
-}
-
-/* The least times of each copy, in nanoseconds a byte: what the place of the code does. */
-static void print_copies(const struct row *row, int search, enum side side)
-{
-    const struct trial *trial = &row->trial[search];
-    for (int copy = 0; copy < trial->share.copies; copy++)
-        printf(" %.2f", trial->seconds[side][copy][0] / (double)row->input.size->n * 1e9);
-}
-
-static void judge_ratio(const char *claim, size_t kind, size_t count, int search, double target)
-{
-    const struct range range = range_of(kind, count, search, target);
-    const struct row *worst = range.least;
-    printf("- %s: %s; least %.2f (%s, n = %s, m = %zu; copy by copy, ours", word(range.missed == 0), claim,
-           ratio_of(worst, search), name_of(worst), size_name_of(worst), worst->input.m);
-    print_copies(worst, search, OURS);
-    printf(", C");
-    print_copies(worst, search, OTHER);
-    printf("), missed on %zu of %zu rows\n", range.missed, range.rows);
 }
 
 static double spread_in_per_cent(size_t kind)
@@ -259,12 +207,13 @@ static void verdicts(void)
 {
     puts("\n## Verdicts\n");
     const size_t with_classes = COUNT_OF(kinds) - PLAIN_KINDS;
-    judge_ratio("Colussi's order at 0.95 of the C or better", 0, PLAIN_KINDS, COLUSSI, LEAST_RATIO);
-    judge_ratio("KMP at 0.95 of the C or better", 0, PLAIN_KINDS, KMP, LEAST_RATIO);
-    judge_ratio("Colussi's order at 3 times the C or better on random text over 256 letters", RANDOM_256, 1, COLUSSI,
+    judge_ratio("C", "Colussi's order at 0.95 of the C or better", 0, PLAIN_KINDS, COLUSSI, LEAST_RATIO);
+    judge_ratio("C", "KMP at 0.95 of the C or better", 0, PLAIN_KINDS, KMP, LEAST_RATIO);
+    judge_ratio("C", "Colussi's order at 3 times the C or better on random text over 256 letters", RANDOM_256, 1, COLUSSI,
                 LEAST_RATIO_OF_256);
-    judge_ratio("through 16 classes, Colussi's order at 0.95 of the C or better", PLAIN_KINDS, with_classes, COLUSSI, LEAST_RATIO);
-    judge_ratio("through 16 classes, KMP at 0.8 of the C or better", PLAIN_KINDS, with_classes, KMP,
+    judge_ratio("C", "through 16 classes, Colussi's order at 0.95 of the C or better", PLAIN_KINDS, with_classes, COLUSSI,
+                LEAST_RATIO);
+    judge_ratio("C", "through 16 classes, KMP at 0.8 of the C or better", PLAIN_KINDS, with_classes, KMP,
                 LEAST_RATIO_OF_KMP_BY_CLASSES);
     judge_growth("time per byte from 64 KiB to 16 MiB within 15 %", GREATEST_SPREAD);
     judge_check("search of an empty text under 4 microseconds at m = 256", 256, LONGEST_CHECK_OF_256);

@@ -1,5 +1,6 @@
 /* The library's functions in the form in which they are measured. It is compiled with the header of each build: those from before
-   C-19 know no classes. */
+   C-19 know no classes, and those from before C-16 report no columns. C can't ask whether a struct has a field, so `run` looks into
+   the header and sets HAS_COLUMNS to 1 or 0. */
 #include "subject.h"
 
 #include <poqewan.h>
@@ -13,11 +14,16 @@ _Static_assert(POQEWAN_CLASSES == CLASSES, "another number of classes");
 #define CLASSES_OF(subject)
 #define HAS_CLASSES false
 #endif
+#if HAS_COLUMNS
+#define COLUMNS_OF(report) (report)->at_noholes, (report)->at_holes,
+#else
+#define COLUMNS_OF(report) 0, 0,
+#endif
 _Static_assert(POQEWAN_LONGEST_PATTERN == LONGEST_PATTERN, "another longest pattern");
 
 static struct report plain(const poqewan_report *report)
 {
-    return (struct report){report->refusal, report->ending, report->window, report->count, report->written};
+    return (struct report){report->refusal, report->ending, report->window, report->count, COLUMNS_OF(report) report->written};
 }
 
 /* The pattern is passed by value, as the library's callers do: the copy is a part of the call. */
@@ -71,4 +77,5 @@ static void copy_tables(const void *prepared, struct tables *tables)
     memcpy(tables->marks, pattern->marks, sizeof tables->marks);
 }
 
-const struct version version = {colussi, kmp, sizeof(poqewan_pattern), HAS_CLASSES, prepare, copy_tables, poqewan_charge};
+const struct version version = {colussi, kmp, sizeof(poqewan_pattern), HAS_CLASSES, HAS_COLUMNS, prepare, copy_tables,
+                                poqewan_charge};

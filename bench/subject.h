@@ -23,11 +23,11 @@ struct subject {
     void *prepared[SIDES];
 };
 
-/* The library's report. */
+/* The library's report. The columns of a build that reports none are 0. */
 struct report {
     uint32_t refusal, ending;
     size_t window;
-    uint64_t count;
+    uint64_t count, at_noholes, at_holes;
     size_t written;
 };
 
@@ -56,6 +56,7 @@ struct version {
     search_function *colussi, *kmp;
     size_t size;      /* of a store */
     bool has_classes; /* or else it can only be asked where they are the identity */
+    bool has_columns; /* or else it reports the count alone */
     /* Prepares the pattern of a subject, into a store or NULL, and gives the number of the refusal. */
     uint32_t (*prepare)(const struct subject *subject, uint16_t *scratch, size_t scratch_len, void *prepared);
     void (*copy_tables)(const void *prepared, struct tables *tables);

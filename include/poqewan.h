@@ -76,10 +76,12 @@ typedef struct poqewan_preparation {
 /* The number of a refusal, and then all else is 0; or 0 and the report of a search. */
 typedef struct poqewan_report {
     uint32_t refusal;
-    uint32_t ending; /* POQEWAN_DONE, POQEWAN_SPENT or POQEWAN_FULL */
-    size_t window;   /* the window at which the search was cut off, or 0 */
-    uint64_t count;  /* the comparisons of a pattern byte with a text byte */
-    size_t written;  /* the positions written into the list */
+    uint32_t ending;     /* POQEWAN_DONE, POQEWAN_SPENT or POQEWAN_FULL */
+    size_t window;       /* the window at which the search was cut off, or 0 */
+    uint64_t count;      /* the comparisons of a pattern byte with a text byte */
+    uint64_t at_noholes; /* those of them that were made at noholes of the pattern */
+    uint64_t at_holes;   /* those that were made at its holes */
+    size_t written;      /* the positions written into the list */
 } poqewan_report;
 
 /* Fills entry v with v mod 256. So POQEWAN_CLASSES entries give each byte value a class of its own: itself. */
@@ -113,6 +115,9 @@ poqewan_preparation poqewan_prepare(const uint8_t *bytes, size_t bytes_len, cons
  * of the text. The search is spent only with `count` equal to `cap` and a comparison due, and full only with every entry of
  * the list written and an occurrence at the window. With n text bytes and m pattern bytes, 2 * count <= 3 * n - m at the end
  * if n >= m, and count = 0 if n < m; cut off at window b, 2 * count <= 3 * b + 2 * m.
+ *
+ * Each comparison is made at a place of the pattern: at a nohole, where the pattern's marks have the place, or else at a
+ * hole. So count = at_noholes + at_holes, however the search ended.
  */
 poqewan_report poqewan_colussi(poqewan_pattern pattern, const uint8_t *text, size_t text_len, uint64_t cap,
                                uint32_t *positions, size_t positions_len);
@@ -120,7 +125,7 @@ poqewan_report poqewan_colussi(poqewan_pattern pattern, const uint8_t *text, siz
 /*
  * Searches a text by Knuth, Morris and Pratt, with the same report, endings, refusals and list. Run to its end it lists the
  * same positions. Its count is at most 2 * n - m at the end if n >= m, and 0 if n < m; cut off at window b, at most
- * 2 * b + m.
+ * 2 * b + m. It compares the places from left to right, and count = at_noholes + at_holes as above.
  */
 poqewan_report poqewan_kmp(poqewan_pattern pattern, const uint8_t *text, size_t text_len, uint64_t cap,
                            uint32_t *positions, size_t positions_len);

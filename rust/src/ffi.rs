@@ -18,6 +18,8 @@ pub struct Report {
     pub ending: u32,
     pub window: usize,
     pub count: u64,
+    pub at_noholes: u64,
+    pub at_holes: u64,
     pub written: usize,
 }
 
@@ -81,10 +83,12 @@ const _: () = {
     assert!(offset_of!(Preparation, compared) == 4);
     assert!(offset_of!(Preparation, pattern) == 8);
 
-    assert!(size_of::<Report>() == 32);
+    assert!(size_of::<Report>() == 48);
     assert!(offset_of!(Report, refusal) == 0);
     assert!(offset_of!(Report, ending) == 4);
     assert!(offset_of!(Report, window) == 8);
     assert!(offset_of!(Report, count) == 16);
-    assert!(offset_of!(Report, written) == 24);
+    assert!(offset_of!(Report, at_noholes) == 24);
+    assert!(offset_of!(Report, at_holes) == 32);
+    assert!(offset_of!(Report, written) == 40);
 };

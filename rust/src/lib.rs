@@ -21,6 +21,7 @@
 //! assert_eq!(report.ending, Ending::Done);
 //! assert_eq!(positions[..report.written], [0, 2]);
 //! assert_eq!(report.count, 5);
+//! assert_eq!((report.at_noholes, report.at_holes), (2, 3));
 //! assert_eq!(charge(report.count), 1);
 //! # Ok::<(), Refusal>(())
 //! ```
@@ -163,8 +164,13 @@ pub enum Ending {
 pub struct Report {
     /// How the search ended.
     pub ending: Ending,
-    /// The comparisons of a pattern byte with a text byte.
+    /// The comparisons of a pattern byte with a text byte. Each is made at a nohole of the pattern or
+    /// at a hole, so this is the sum of the two numbers that follow.
     pub count: u64,
+    /// The comparisons made at noholes: at places that the pattern's marks have.
+    pub at_noholes: u64,
+    /// The comparisons made at holes: at all other places.
+    pub at_holes: u64,
     /// The positions written into the list.
     pub written: usize,
 }
@@ -225,6 +231,9 @@ pub fn prepare(bytes: &[u8], classes: &[u8], scratch: &mut [u16]) -> Result<Prep
 /// and an occurrence at the window. With n text bytes and m pattern bytes, 2 * count <= 3 * n - m at
 /// the end if n >= m, and count = 0 if n < m; cut off at window b, 2 * count <= 3 * b + 2 * m.
 ///
+/// Each comparison is made at a place of the pattern, at a nohole or at a hole. So, however the search
+/// ended, count = at_noholes + at_holes.
+///
 /// # Errors
 ///
 /// Refused, in this order, with the list unchanged: a pattern that is not what preparation gives
@@ -242,7 +251,8 @@ pub fn colussi(
 /// [`colussi`]. Run to its end it lists the same positions.
 ///
 /// Its count is at most 2 * n - m at the end if n >= m, and 0 if n < m; cut off at window b, at
-/// most 2 * b + m.
+/// most 2 * b + m. It compares the places from left to right, and count = at_noholes + at_holes as
+/// in [`colussi`].
 ///
 /// # Errors
 ///
@@ -314,6 +324,8 @@ fn searched(answer: &ffi::Report) -> Result<Report, Refusal> {
     Ok(Report {
         ending,
         count: answer.count,
+        at_noholes: answer.at_noholes,
+        at_holes: answer.at_holes,
         written: answer.written,
     })
 }
@@ -344,7 +356,30 @@ mod tests {
             ending: 3,
             window: 0,
             count: 0,
+            at_noholes: 0,
+            at_holes: 0,
             written: 0,
         });
+    }
+
+    #[test]
+    fn each_field_of_a_report_is_read_as_that_field() {
+        let answer = ffi::Report {
+            refusal: 0,
+            ending: 1,
+            window: 2,
+            count: 7,
+            at_noholes: 3,
+            at_holes: 4,
+            written: 5,
+        };
+        let report = Report {
+            ending: Ending::Spent(2),
+            count: 7,
+            at_noholes: 3,
+            at_holes: 4,
+            written: 5,
+        };
+        assert_eq!(searched(&answer), Ok(report));
     }
 }

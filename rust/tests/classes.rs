@@ -4,7 +4,7 @@ mod common;
 mod oracle;
 
 use common::classes::{
-    directions, joined, letters, one_but_0, shuffled, with_classes, Classes, Drawn,
+    c_in_b, directions, letters, one_but_0, shuffled, with_classes, Classes, Drawn,
 };
 use common::worked::{row, Row, LONG, NO_CAP};
 use common::{
@@ -15,35 +15,37 @@ use oracle::{identity, CLASSES, LONGEST_PATTERN, SCRATCH};
 use poqewan::Ending::{Done, Full, Spent};
 use poqewan::{Pattern, Report, LONGEST_TEXT};
 
-/// c has the class of b.
-fn c_in_b() -> Classes {
-    joined(b'c', b'b')
-}
-
 /// First document 01's worked records, spelled in small and capital letters. Then records worked by
 /// hand from its rules: bca with c in b's class, and abAB, each with the tables below; and aba in
-/// directions, with a byte 0 in the last text.
+/// directions, with a byte 0 in the last text. The columns of the first are those of document 01's
+/// words; of the others, the places that are compared are given, window by window.
 #[rustfmt::skip]
 const ROWS: [Row; 19] = [
-    row(letters, b"a", b"Aab", NO_CAP, LONG, &[0, 1], Done, 3, None),
-    row(letters, b"Aa", b"aAAa", NO_CAP, LONG, &[0, 1, 2], Done, 4, None),
-    row(letters, b"aB", b"AaaA", NO_CAP, LONG, &[], Done, 3, Some(6)),
-    row(letters, b"aBa", b"AbaBA", NO_CAP, LONG, &[0, 2], Done, 5, None),
-    row(letters, b"abA", b"aBAba", 3, LONG, &[0], Spent(2), 3, None),
-    row(letters, b"Aba", b"abABa", 4, LONG, &[0], Spent(2), 4, None),
-    row(letters, b"ABa", b"aBabA", 5, LONG, &[0, 2], Done, 5, None),
-    row(letters, b"aBa", b"ABAba", NO_CAP, 1, &[0], Full(2), 5, None),
-    row(letters, b"AabaA", b"aABAaAabAa", NO_CAP, LONG, &[0, 5], Done, 12, Some(12)),
-    row(letters, b"aBa", b"Ab", 0, LONG, &[], Done, 0, None),
-    row(letters, b"aBa", b"AbA", 0, LONG, &[], Spent(0), 0, None),
-    row(c_in_b, b"bca", b"bbacabca", NO_CAP, LONG, &[0, 5], Done, 8, Some(8)),
-    row(c_in_b, b"bca", b"cbaCAbba", NO_CAP, LONG, &[0, 5], Done, 8, Some(8)),
-    row(letters, b"abAB", b"aBAbAba", NO_CAP, LONG, &[0, 2], Done, 6, Some(6)),
-    row(letters, b"abAB", b"aBAbAba", NO_CAP, 1, &[0], Full(2), 6, None),
-    row(letters, b"abAB", b"aBAbAba", 5, LONG, &[0], Spent(2), 5, None),
-    row(directions, b"\x12\x25\x1F", b"\x10\x2F\x1A\x20\x13", NO_CAP, LONG, &[0, 2], Done, 5, None),
-    row(directions, b"\x12\x25\x1F", b"\x10\x30\x1A\x20\x13", NO_CAP, LONG, &[2], Done, 5, None),
-    row(directions, b"\x01\x25\x0F", b"\x0E\x2F\x01\0\x0B\x22\x01", NO_CAP, LONG, &[0, 4], Done, 8, Some(8)),
+    row(letters, b"a", b"Aab", NO_CAP, LONG, &[0, 1], Done, [3, 0, 3], [3, 0, 3]),
+    row(letters, b"Aa", b"aAAa", NO_CAP, LONG, &[0, 1, 2], Done, [4, 0, 4], [4, 0, 4]),
+    row(letters, b"aB", b"AaaA", NO_CAP, LONG, &[], Done, [3, 3, 0], [6, 3, 3]),
+    row(letters, b"aBa", b"AbaBA", NO_CAP, LONG, &[0, 2], Done, [5, 2, 3], [5, 2, 3]),
+    row(letters, b"abA", b"aBAba", 3, LONG, &[0], Spent(2), [3, 1, 2], [3, 1, 2]),
+    row(letters, b"Aba", b"abABa", 4, LONG, &[0], Spent(2), [4, 2, 2], [4, 2, 2]),
+    row(letters, b"ABa", b"aBabA", 5, LONG, &[0, 2], Done, [5, 2, 3], [5, 2, 3]),
+    row(letters, b"aBa", b"ABAba", NO_CAP, 1, &[0], Full(2), [5, 2, 3], [5, 2, 3]),
+    row(letters, b"AabaA", b"aABAaAabAa", NO_CAP, LONG, &[0, 5], Done, [12, 4, 8], [12, 4, 8]),
+    row(letters, b"aBa", b"Ab", 0, LONG, &[], Done, [0, 0, 0], [0, 0, 0]),
+    row(letters, b"aBa", b"AbA", 0, LONG, &[], Spent(0), [0, 0, 0], [0, 0, 0]),
+    // The only nohole is place 2. 210, 2, 2, 210 at 0, 3, 4, 5; KMP 012, 01, 012 at 0, 3, 5.
+    row(c_in_b, b"bca", b"bbacabca", NO_CAP, LONG, &[0, 5], Done, [8, 4, 4], [8, 2, 6]),
+    // 210, 2, 2, 210; KMP 012, 0, 0, 012, both at 0, 3, 4, 5.
+    row(c_in_b, b"bca", b"cbaCAbba", NO_CAP, LONG, &[0, 5], Done, [8, 4, 4], [8, 2, 6]),
+    // The noholes are places 1 and 3. 1320, then 32, as the known edge covers 0; KMP 0123, 23.
+    row(letters, b"abAB", b"aBAbAba", NO_CAP, LONG, &[0, 2], Done, [6, 3, 3], [6, 3, 3]),
+    row(letters, b"abAB", b"aBAbAba", NO_CAP, 1, &[0], Full(2), [6, 3, 3], [6, 3, 3]),
+    row(letters, b"abAB", b"aBAbAba", 5, LONG, &[0], Spent(2), [5, 3, 2], [5, 2, 3]),
+    // The only nohole is place 1, in all three. 120, 12; KMP 012, 12.
+    row(directions, b"\x12\x25\x1F", b"\x10\x2F\x1A\x20\x13", NO_CAP, LONG, &[0, 2], Done, [5, 2, 3], [5, 2, 3]),
+    // 1, 1, 120; KMP 01, 0, 012.
+    row(directions, b"\x12\x25\x1F", b"\x10\x30\x1A\x20\x13", NO_CAP, LONG, &[2], Done, [5, 3, 2], [6, 2, 4]),
+    // 120, 1, 1, 120; KMP 012, 1, 0, 012, both at 0, 2, 3, 4.
+    row(directions, b"\x01\x25\x0F", b"\x0E\x2F\x01\0\x0B\x22\x01", NO_CAP, LONG, &[0, 4], Done, [8, 4, 4], [8, 3, 5]),
 ];
 
 #[test]

@@ -7,7 +7,7 @@ use common::{assert_refused, prepared, repeated, Random, Trial};
 use poqewan::{Ending, Refusal, Report, LONGEST_TEXT};
 
 /// A run of one letter is searched in a longer one: it occurs at every window, and each text byte
-/// is compared once.
+/// is compared once. The run has no nohole.
 fn search_run_in_run(len: usize) {
     let text = vec![b'a'; LONGEST_TEXT];
     let windows = LONGEST_TEXT - len + 1;
@@ -17,6 +17,8 @@ fn search_run_in_run(len: usize) {
     let expected = Report {
         ending: Ending::Done,
         count: LONGEST_TEXT as u64,
+        at_noholes: 0,
+        at_holes: LONGEST_TEXT as u64,
         written: windows,
     };
     assert_eq!(trial.check(&text, expected.count, windows), [expected; 2]);
@@ -90,6 +92,10 @@ fn the_ceiling_of_kmp_is_met() {
     let text = vec![b'a'; LONGEST_TEXT];
     let [_, kmp] = Trial::of(b"aab").check_to_the_end(&text);
     assert_eq!(kmp.count, 2 * LONGEST_TEXT as u64 - 3);
+    // The only nohole, place 2, is compared in every window, and place 1 before it; place 0 in the
+    // first window alone.
+    assert_eq!(kmp.at_noholes, LONGEST_TEXT as u64 - 2);
+    assert_eq!(kmp.at_holes, LONGEST_TEXT as u64 - 1);
 }
 
 #[test]
@@ -97,7 +103,12 @@ fn the_ceiling_of_colussi_is_met_up_to_one_part_in_15() {
     // Document 01 has 12 comparisons for two repetitions; each more costs 7, against 7.5.
     let text = repeated(b"aabaa", LONGEST_TEXT);
     let [colussi, _] = Trial::of(b"aabaa").check_to_the_end(&text);
-    assert_eq!(colussi.count, 7 * (LONGEST_TEXT as u64 / 5) - 2);
+    let repetitions = LONGEST_TEXT as u64 / 5;
+    assert_eq!(colussi.count, 7 * repetitions - 2);
+    // The only nohole is place 2. The first repetition has one comparison there and four elsewhere;
+    // each more has two misses there besides.
+    assert_eq!(colussi.at_noholes, 3 * repetitions - 2);
+    assert_eq!(colussi.at_holes, 4 * repetitions);
 }
 
 #[test]

@@ -8,20 +8,25 @@ use common::Trial;
 use oracle::{identity, LONGEST_PATTERN};
 use poqewan::Ending::{Done, Full, Spent};
 
-/// The rows of the document.
+/// The rows of the document. Its counts are Colussi's, and KMP's of ab and aabaa; the other counts of
+/// KMP and all columns are worked by hand. Neither a nor aa has a nohole; the only one of ab is place
+/// 1, of aba place 1, of aabaa place 2. Below, the places that are compared, window by window.
 #[rustfmt::skip]
 const ROWS: [Row; 11] = [
-    row(identity, b"a", b"aab", NO_CAP, LONG, &[0, 1], Done, 3, None),
-    row(identity, b"aa", b"aaaa", NO_CAP, LONG, &[0, 1, 2], Done, 4, None),
-    row(identity, b"ab", b"aaaa", NO_CAP, LONG, &[], Done, 3, Some(6)),
-    row(identity, b"aba", b"ababa", NO_CAP, LONG, &[0, 2], Done, 5, None),
-    row(identity, b"aba", b"ababa", 3, LONG, &[0], Spent(2), 3, None),
-    row(identity, b"aba", b"ababa", 4, LONG, &[0], Spent(2), 4, None),
-    row(identity, b"aba", b"ababa", 5, LONG, &[0, 2], Done, 5, None),
-    row(identity, b"aba", b"ababa", NO_CAP, 1, &[0], Full(2), 5, None),
-    row(identity, b"aabaa", b"aabaaaabaa", NO_CAP, LONG, &[0, 5], Done, 12, Some(12)),
-    row(identity, b"aba", b"ab", 0, LONG, &[], Done, 0, None),
-    row(identity, b"aba", b"aba", 0, LONG, &[], Spent(0), 0, None),
+    row(identity, b"a", b"aab", NO_CAP, LONG, &[0, 1], Done, [3, 0, 3], [3, 0, 3]),
+    row(identity, b"aa", b"aaaa", NO_CAP, LONG, &[0, 1, 2], Done, [4, 0, 4], [4, 0, 4]),
+    // 1, 1, 1; KMP 01, 01, 01.
+    row(identity, b"ab", b"aaaa", NO_CAP, LONG, &[], Done, [3, 3, 0], [6, 3, 3]),
+    // 120, then 12, as the known edge covers 0; KMP 012, 12.
+    row(identity, b"aba", b"ababa", NO_CAP, LONG, &[0, 2], Done, [5, 2, 3], [5, 2, 3]),
+    row(identity, b"aba", b"ababa", 3, LONG, &[0], Spent(2), [3, 1, 2], [3, 1, 2]),
+    row(identity, b"aba", b"ababa", 4, LONG, &[0], Spent(2), [4, 2, 2], [4, 2, 2]),
+    row(identity, b"aba", b"ababa", 5, LONG, &[0, 2], Done, [5, 2, 3], [5, 2, 3]),
+    row(identity, b"aba", b"ababa", NO_CAP, 1, &[0], Full(2), [5, 2, 3], [5, 2, 3]),
+    // 24310, 2, 2, 24310 at 0, 3, 4, 5; KMP 01234, 2, 12, 1234.
+    row(identity, b"aabaa", b"aabaaaabaa", NO_CAP, LONG, &[0, 5], Done, [12, 4, 8], [12, 4, 8]),
+    row(identity, b"aba", b"ab", 0, LONG, &[], Done, [0, 0, 0], [0, 0, 0]),
+    row(identity, b"aba", b"aba", 0, LONG, &[], Spent(0), [0, 0, 0], [0, 0, 0]),
 ];
 
 #[test]

@@ -41,12 +41,14 @@ _Static_assert(sizeof(poqewan_preparation) == 1856, "poqewan_preparation");
 _Static_assert(offsetof(poqewan_preparation, refusal) == 0, "refusal");
 _Static_assert(offsetof(poqewan_preparation, compared) == 4, "compared");
 _Static_assert(offsetof(poqewan_preparation, pattern) == 8, "pattern");
-_Static_assert(sizeof(poqewan_report) == 32, "poqewan_report");
+_Static_assert(sizeof(poqewan_report) == 48, "poqewan_report");
 _Static_assert(offsetof(poqewan_report, refusal) == 0, "refusal");
 _Static_assert(offsetof(poqewan_report, ending) == 4, "ending");
 _Static_assert(offsetof(poqewan_report, window) == 8, "window");
 _Static_assert(offsetof(poqewan_report, count) == 16, "count");
-_Static_assert(offsetof(poqewan_report, written) == 24, "written");
+_Static_assert(offsetof(poqewan_report, at_noholes) == 24, "at_noholes");
+_Static_assert(offsetof(poqewan_report, at_holes) == 32, "at_holes");
+_Static_assert(offsetof(poqewan_report, written) == 40, "written");
 
 /* The bytes of a pattern that belong to no field. */
 #define PADDING_FROM (offsetof(poqewan_pattern, next) + sizeof ((poqewan_pattern *)NULL)->next)
@@ -161,13 +163,25 @@ enum { COLUSSI, KMP, SEARCHES };
 static bool is_refusal(poqewan_report report, uint32_t number)
 {
     return report.refusal == number && report.ending == 0 && report.window == 0 && report.count == 0 &&
-           report.written == 0;
+           report.at_noholes == 0 && report.at_holes == 0 && report.written == 0;
 }
 
-static bool is_report(poqewan_report report, uint32_t ending, size_t window, uint64_t count, size_t written)
+/* A count, and its two columns. */
+struct counts {
+    uint64_t count, at_noholes, at_holes;
+};
+
+static const struct counts none;
+
+static struct counts counts_of(poqewan_report report)
 {
-    return report.refusal == 0 && report.ending == ending && report.window == window && report.count == count &&
-           report.written == written;
+    return (struct counts){report.count, report.at_noholes, report.at_holes};
+}
+
+static bool is_report(poqewan_report report, uint32_t ending, size_t window, struct counts counts, size_t written)
+{
+    return report.refusal == 0 && report.ending == ending && report.window == window && report.count == counts.count &&
+           report.at_noholes == counts.at_noholes && report.at_holes == counts.at_holes && report.written == written;
 }
 
 /* Field by field: what the padding holds is nobody's promise. */
@@ -236,45 +250,53 @@ static void check_refused(const poqewan_pattern *pattern, const uint8_t *text, s
     free(list);
 }
 
-/* The worked records of document 01: Colussi's result, and the count of Knuth, Morris and Pratt where it is given. */
 #define LONG_LIST 16
-#define NOT_GIVEN UINT64_MAX
 
+/* The worked records of document 01. Its counts are Colussi's, and those of Knuth, Morris and Pratt for ab and aabaa. Their
+   other counts and all columns are worked by hand from its rules. The two searches end alike. */
 static const struct record {
     const char *pattern, *text;
     uint64_t cap;
     size_t list_len;
     uint32_t ending;
-    size_t window;
-    uint64_t count;
-    size_t written;
+    size_t window, written;
     uint32_t positions[3];
-    uint64_t kmp_count;
+    struct counts counts[SEARCHES];
 } records[] = {
-    {"a", "aab", UINT64_MAX, LONG_LIST, POQEWAN_DONE, 0, 3, 2, {0, 1}, NOT_GIVEN},
-    {"aa", "aaaa", UINT64_MAX, LONG_LIST, POQEWAN_DONE, 0, 4, 3, {0, 1, 2}, NOT_GIVEN},
-    {"ab", "aaaa", UINT64_MAX, LONG_LIST, POQEWAN_DONE, 0, 3, 0, {0}, 6},
-    {"aba", "ababa", UINT64_MAX, LONG_LIST, POQEWAN_DONE, 0, 5, 2, {0, 2}, NOT_GIVEN},
-    {"aba", "ababa", 3, LONG_LIST, POQEWAN_SPENT, 2, 3, 1, {0}, NOT_GIVEN},
-    {"aba", "ababa", 4, LONG_LIST, POQEWAN_SPENT, 2, 4, 1, {0}, NOT_GIVEN},
-    {"aba", "ababa", 5, LONG_LIST, POQEWAN_DONE, 0, 5, 2, {0, 2}, NOT_GIVEN},
-    {"aba", "ababa", UINT64_MAX, 1, POQEWAN_FULL, 2, 5, 1, {0}, NOT_GIVEN},
-    {"aabaa", "aabaaaabaa", UINT64_MAX, LONG_LIST, POQEWAN_DONE, 0, 12, 2, {0, 5}, 12},
-    {"aba", "ab", 0, LONG_LIST, POQEWAN_DONE, 0, 0, 0, {0}, NOT_GIVEN},
-    {"aba", "aba", 0, LONG_LIST, POQEWAN_SPENT, 0, 0, 0, {0}, NOT_GIVEN},
+    {"a", "aab", UINT64_MAX, LONG_LIST, POQEWAN_DONE, 0, 2, {0, 1}, {{3, 0, 3}, {3, 0, 3}}},
+    {"aa", "aaaa", UINT64_MAX, LONG_LIST, POQEWAN_DONE, 0, 3, {0, 1, 2}, {{4, 0, 4}, {4, 0, 4}}},
+    {"ab", "aaaa", UINT64_MAX, LONG_LIST, POQEWAN_DONE, 0, 0, {0}, {{3, 3, 0}, {6, 3, 3}}},
+    {"aba", "ababa", UINT64_MAX, LONG_LIST, POQEWAN_DONE, 0, 2, {0, 2}, {{5, 2, 3}, {5, 2, 3}}},
+    {"aba", "ababa", 3, LONG_LIST, POQEWAN_SPENT, 2, 1, {0}, {{3, 1, 2}, {3, 1, 2}}},
+    {"aba", "ababa", 4, LONG_LIST, POQEWAN_SPENT, 2, 1, {0}, {{4, 2, 2}, {4, 2, 2}}},
+    {"aba", "ababa", 5, LONG_LIST, POQEWAN_DONE, 0, 2, {0, 2}, {{5, 2, 3}, {5, 2, 3}}},
+    {"aba", "ababa", UINT64_MAX, 1, POQEWAN_FULL, 2, 1, {0}, {{5, 2, 3}, {5, 2, 3}}},
+    {"aabaa", "aabaaaabaa", UINT64_MAX, LONG_LIST, POQEWAN_DONE, 0, 2, {0, 5}, {{12, 4, 8}, {12, 4, 8}}},
+    {"aba", "ab", 0, LONG_LIST, POQEWAN_DONE, 0, 0, {0}, {{0, 0, 0}, {0, 0, 0}}},
+    {"aba", "aba", 0, LONG_LIST, POQEWAN_SPENT, 0, 0, {0}, {{0, 0, 0}, {0, 0, 0}}},
+};
+
+/* Worked by hand from the same rules, where the two searches have different columns. */
+static const struct record more_records[] = {
+    {"aab", "aaaaab", UINT64_MAX, LONG_LIST, POQEWAN_DONE, 0, 1, {3}, {{6, 4, 2}, {9, 4, 5}}},
+    {"abab", "abacabab", UINT64_MAX, LONG_LIST, POQEWAN_DONE, 0, 1, {4}, {{7, 5, 2}, {9, 4, 5}}},
+    {"aba", "abcaba", UINT64_MAX, LONG_LIST, POQEWAN_DONE, 0, 1, {3}, {{5, 2, 3}, {6, 2, 4}}},
+    {"aabaa", "aaabaa", UINT64_MAX, LONG_LIST, POQEWAN_DONE, 0, 1, {1}, {{6, 2, 4}, {7, 2, 5}}},
+    {"abb", "cabb", UINT64_MAX, LONG_LIST, POQEWAN_DONE, 0, 1, {1}, {{4, 3, 1}, {4, 2, 2}}},
+    {"abab", "ababab", 5, LONG_LIST, POQEWAN_SPENT, 2, 1, {0}, {{5, 3, 2}, {5, 2, 3}}},
 };
 
 /* By the joined classes: records of document 01 in small and capital letters, and records worked by hand from its rules
    with the tables below. */
 static const struct record joined_records[] = {
-    {"aB", "AaaA", UINT64_MAX, LONG_LIST, POQEWAN_DONE, 0, 3, 0, {0}, 6},
-    {"abA", "aBAba", UINT64_MAX, LONG_LIST, POQEWAN_DONE, 0, 5, 2, {0, 2}, NOT_GIVEN},
-    {"Aba", "abABa", 4, LONG_LIST, POQEWAN_SPENT, 2, 4, 1, {0}, NOT_GIVEN},
-    {"aBa", "ABAba", UINT64_MAX, 1, POQEWAN_FULL, 2, 5, 1, {0}, NOT_GIVEN},
-    {"AabaA", "aABAaAabAa", UINT64_MAX, LONG_LIST, POQEWAN_DONE, 0, 12, 2, {0, 5}, 12},
-    {"bca", "bbacabca", UINT64_MAX, LONG_LIST, POQEWAN_DONE, 0, 8, 2, {0, 5}, 8},
-    {"abAB", "aBAbAba", UINT64_MAX, LONG_LIST, POQEWAN_DONE, 0, 6, 2, {0, 2}, 6},
-    {"abAB", "aBAbAba", 5, LONG_LIST, POQEWAN_SPENT, 2, 5, 1, {0}, NOT_GIVEN},
+    {"aB", "AaaA", UINT64_MAX, LONG_LIST, POQEWAN_DONE, 0, 0, {0}, {{3, 3, 0}, {6, 3, 3}}},
+    {"abA", "aBAba", UINT64_MAX, LONG_LIST, POQEWAN_DONE, 0, 2, {0, 2}, {{5, 2, 3}, {5, 2, 3}}},
+    {"Aba", "abABa", 4, LONG_LIST, POQEWAN_SPENT, 2, 1, {0}, {{4, 2, 2}, {4, 2, 2}}},
+    {"aBa", "ABAba", UINT64_MAX, 1, POQEWAN_FULL, 2, 1, {0}, {{5, 2, 3}, {5, 2, 3}}},
+    {"AabaA", "aABAaAabAa", UINT64_MAX, LONG_LIST, POQEWAN_DONE, 0, 2, {0, 5}, {{12, 4, 8}, {12, 4, 8}}},
+    {"bca", "bbacabca", UINT64_MAX, LONG_LIST, POQEWAN_DONE, 0, 2, {0, 5}, {{8, 4, 4}, {8, 2, 6}}},
+    {"abAB", "aBAbAba", UINT64_MAX, LONG_LIST, POQEWAN_DONE, 0, 2, {0, 2}, {{6, 3, 3}, {6, 3, 3}}},
+    {"abAB", "aBAbAba", 5, LONG_LIST, POQEWAN_SPENT, 2, 1, {0}, {{5, 3, 2}, {5, 2, 3}}},
 };
 
 static void check_record(const struct record *r, const uint8_t *classes)
@@ -282,18 +304,15 @@ static void check_record(const struct record *r, const uint8_t *classes)
     poqewan_pattern pattern = prepared_by(classes, r->pattern);
     size_t n = strlen(r->text);
     uint8_t *text = lend_bytes(r->text, n);
-    uint32_t *list = lend_list(r->list_len);
-
-    poqewan_report got = poqewan_colussi(pattern, text, n, r->cap, list, r->list_len);
-    CHECK(is_report(got, r->ending, r->window, r->count, r->written));
-    CHECK(memcmp(list, r->positions, r->written * sizeof *list) == 0);
-    CHECK(unwritten(list, r->written, r->list_len));
-    if (r->kmp_count != NOT_GIVEN) {
-        got = poqewan_kmp(pattern, text, n, r->cap, list, r->list_len);
-        CHECK(is_report(got, POQEWAN_DONE, 0, r->kmp_count, r->written));
+    for (int s = 0; s < SEARCHES; s++) {
+        uint32_t *list = lend_list(r->list_len);
+        poqewan_report got = searches[s](pattern, text, n, r->cap, list, r->list_len);
+        CHECK(is_report(got, r->ending, r->window, r->counts[s], r->written));
+        CHECK(got.count == got.at_noholes + got.at_holes);
         CHECK(memcmp(list, r->positions, r->written * sizeof *list) == 0);
+        CHECK(unwritten(list, r->written, r->list_len));
+        free(list);
     }
-    free(list);
     free(text);
 }
 
@@ -301,6 +320,8 @@ static void test_worked_records(void)
 {
     for (size_t i = 0; i < sizeof records / sizeof *records; i++)
         check_record(&records[i], own);
+    for (size_t i = 0; i < sizeof more_records / sizeof *more_records; i++)
+        check_record(&more_records[i], own);
     for (size_t i = 0; i < sizeof joined_records / sizeof *joined_records; i++)
         check_record(&joined_records[i], joined);
 }
@@ -483,16 +504,17 @@ static void test_zero_in_pattern(void)
 }
 
 /* The tables of aba are those of any word of its shape: with another letter for b it is true, and with a byte 0 false. Past
-   its length a byte 0 stands in every pattern. */
+   its length a byte 0 stands in every pattern. The counts are worked by hand. */
 static void test_zero_in_a_value(void)
 {
+    static const struct counts counts[SEARCHES] = {{7, 4, 3}, {9, 3, 6}};
     uint8_t *text = lend_bytes("a\0ac\0aca", 8);
     uint32_t *list = lend_list(8);
     poqewan_pattern pattern = prepared("aba");
     CHECK(pattern.bytes[3] == 0);
     for (int s = 0; s < SEARCHES; s++) {
         pattern.bytes[1] = 'c';
-        CHECK(searches[s](pattern, text, 8, UINT64_MAX, list, 8).refusal == 0);
+        CHECK(is_report(searches[s](pattern, text, 8, UINT64_MAX, list, 8), POQEWAN_DONE, 0, counts[s], 1));
         CHECK(list[0] == 5);
         list[0] = UNWRITTEN;
         CHECK(unwritten(list, 0, 8));
@@ -586,10 +608,10 @@ static void test_null(void)
     CHECK(poqewan_prepare(a, 1, own, POQEWAN_CLASSES, NULL, 0).refusal == POQEWAN_SHORT_SCRATCH);
     CHECK(poqewan_prepare((const uint8_t *)"", 1, NULL, 0, NULL, 0).refusal == POQEWAN_ZERO_IN_PATTERN);
     for (int s = 0; s < SEARCHES; s++) {
-        CHECK(is_report(searches[s](pattern, NULL, 0, 0, NULL, 0), POQEWAN_DONE, 0, 0, 0));
-        CHECK(is_report(searches[s](pattern, NULL, 0, 0, list, 1), POQEWAN_DONE, 0, 0, 0));
-        CHECK(is_report(searches[s](pattern, a, 1, 0, NULL, 0), POQEWAN_SPENT, 0, 0, 0));
-        CHECK(is_report(searches[s](pattern, a, 1, 1, NULL, 0), POQEWAN_FULL, 0, 1, 0));
+        CHECK(is_report(searches[s](pattern, NULL, 0, 0, NULL, 0), POQEWAN_DONE, 0, none, 0));
+        CHECK(is_report(searches[s](pattern, NULL, 0, 0, list, 1), POQEWAN_DONE, 0, none, 0));
+        CHECK(is_report(searches[s](pattern, a, 1, 0, NULL, 0), POQEWAN_SPENT, 0, none, 0));
+        CHECK(is_report(searches[s](pattern, a, 1, 1, NULL, 0), POQEWAN_FULL, 0, (struct counts){1, 0, 1}, 0));
     }
     CHECK(unwritten(list, 0, 1));
     free(list);
@@ -612,7 +634,7 @@ static void test_changed_patterns(void)
             memcpy(&changed, &pattern, sizeof pattern);
             ((uint8_t *)&changed)[at] ^= (uint8_t)(1u << at % 8);
             if (PADDING_FROM <= at && at < PADDING_TO)
-                CHECK(poqewan_colussi(changed, text, 12, 0, NULL, 0).refusal == 0);
+                CHECK(is_report(poqewan_colussi(changed, text, 12, 0, NULL, 0), POQEWAN_SPENT, 0, none, 0));
             else
                 check_refused(&changed, text, 12, POQEWAN_FALSE_PATTERN);
         }
@@ -651,13 +673,18 @@ static void test_junk(size_t rounds)
     free(text);
 }
 
+static bool equal(const poqewan_pattern *pattern, uint8_t one, uint8_t other)
+{
+    return pattern->classes[one] == pattern->classes[other];
+}
+
 /* The naive search, by the pattern's classes. */
 static bool occurs(const poqewan_pattern *pattern, const uint8_t *text, size_t n, size_t b)
 {
     if (b + pattern->len > n)
         return false;
     for (size_t p = 0; p < pattern->len; p++)
-        if (pattern->classes[pattern->bytes[p]] != pattern->classes[text[b + p]])
+        if (!equal(pattern, pattern->bytes[p], text[b + p]))
             return false;
     return true;
 }
@@ -686,6 +713,69 @@ static bool under_ceiling(int search, poqewan_report report, size_t m, size_t n)
     return search == COLUSSI ? 2 * report.count <= 3 * report.window + 2 * m : report.count <= 2 * report.window + m;
 }
 
+/* kmin, at each place: the least k for which it is the first place that differs from the one k before. There is none at a
+   hole, which has 0. */
+static void fill_kmin(const poqewan_pattern *pattern, size_t *kmin)
+{
+    size_t m = pattern->len;
+    memset(kmin, 0, m * sizeof *kmin);
+    for (size_t k = m; k > 0; k--) {
+        size_t p = k;
+        while (p < m && equal(pattern, pattern->bytes[p], pattern->bytes[p - k]))
+            p++;
+        if (p < m)
+            kmin[p] = k;
+    }
+}
+
+/* The report by document 01's rules, with the pattern's order, shifts and nexts. Each comparison goes into the column of
+   its place. Which places are noholes is found from the pattern's bytes and classes, and not from its marks. */
+static poqewan_report by_rules(int search, const poqewan_pattern *pattern, const uint8_t *text, size_t n, uint64_t cap,
+                               size_t list_len)
+{
+    size_t m = pattern->len, b = 0, i = 0, e = 0, kmin[POQEWAN_LONGEST_PATTERN];
+    poqewan_report r = {0};
+    fill_kmin(pattern, kmin);
+    while (b + m <= n) {
+        size_t p = search == COLUSSI && i < m ? pattern->order[i] : i;
+        if (i == m || b + p < e) {
+            if (r.written == list_len) {
+                r.ending = POQEWAN_FULL;
+                r.window = b;
+                return r;
+            }
+            r.written++;
+            i = m;
+        } else {
+            if (r.count == cap) {
+                r.ending = POQEWAN_SPENT;
+                r.window = b;
+                return r;
+            }
+            r.count++;
+            if (kmin[p] > 0)
+                r.at_noholes++;
+            else
+                r.at_holes++;
+            if (equal(pattern, pattern->bytes[p], text[b + p])) {
+                i++;
+                continue;
+            }
+        }
+        if (search == COLUSSI) {
+            if (i >= pattern->noholes)
+                e = b + m;
+            b += pattern->shift[i];
+            i = pattern->next[i];
+        } else {
+            size_t shift = i == m ? pattern->shift[m] : kmin[i] > 0 ? kmin[i] : i + 1;
+            b += shift;
+            i = i > shift ? i - shift : 0;
+        }
+    }
+    return r;
+}
+
 /* Runs one search and checks what is promised of any report. Gives the report. */
 static poqewan_report check_search(int search, const poqewan_pattern *pattern, const uint8_t *text, size_t n,
                                    uint64_t cap, size_t list_len)
@@ -699,7 +789,10 @@ static poqewan_report check_search(int search, const poqewan_pattern *pattern, c
     CHECK(r.written <= list_len && unwritten(list, r.written, list_len));
     CHECK(lists_occurrences(list, r.written, pattern, text, n, r.ending == POQEWAN_DONE ? n : r.window));
     CHECK(r.count <= cap);
+    CHECK(r.count == r.at_noholes + r.at_holes);
     CHECK(under_ceiling(search, r, m, n));
+    poqewan_report rules = by_rules(search, pattern, text, n, cap, list_len);
+    CHECK(is_report(r, rules.ending, rules.window, counts_of(rules), rules.written));
     if (r.ending == POQEWAN_DONE)
         CHECK(r.window == 0);
     if (r.ending == POQEWAN_SPENT)
@@ -731,6 +824,7 @@ static void test_limits(void)
 {
     static const char *const pairs[][2] = {
         {"a", ""}, {"a", "a"}, {"ab", "a"}, {"aba", "aba"}, {"aba", "abab"}, {"aa", "aaaaaa"}, {"aabaa", "aabaaaabaabaa"},
+        {"aab", "aaaaabaab"}, {"abab", "abacabababab"}, {"abb", "cabbababb"},
     };
     for (size_t i = 0; i < sizeof pairs / sizeof *pairs; i++)
         for (int s = 0; s < SEARCHES; s++) {
@@ -738,6 +832,82 @@ static void test_limits(void)
             size_t n = strlen(pairs[i][1]);
             uint8_t *text = lend_bytes(pairs[i][1], n);
             check_limits(s, &pattern, text, n);
+            free(text);
+        }
+}
+
+/* Searches a text of one window, and checks the columns by each search. */
+static void check_window(const poqewan_pattern *pattern, const uint8_t *text, struct counts colussi, struct counts kmp)
+{
+    const struct counts counts[SEARCHES] = {colussi, kmp};
+    for (int s = 0; s < SEARCHES; s++) {
+        poqewan_report r = check_search(s, pattern, text, pattern->len, UINT64_MAX, 1);
+        CHECK(is_report(r, POQEWAN_DONE, 0, counts[s], r.written));
+    }
+}
+
+/* At each place the only nohole of a pattern: another letter than all others, with no more after it than before. Then at
+   each place the only hole but place 0: the letter of place 0, with others between and others still after. The texts are
+   the pattern itself, where each place is compared once, and the pattern with a byte at that place that differs. */
+static void test_column_of_each_place(void)
+{
+    for (size_t place = 1; place < POQEWAN_LONGEST_PATTERN; place++) {
+        size_t m = 2 * place + 1 < POQEWAN_LONGEST_PATTERN ? 2 * place + 1 : POQEWAN_LONGEST_PATTERN;
+        uint8_t *text = lend(m);
+        memset(text, 'a', m);
+        text[place] = 'b';
+        poqewan_pattern pattern = prepare(text, m, POQEWAN_SCRATCH, 0).pattern;
+        CHECK(pattern.noholes == 1);
+        check_window(&pattern, text, (struct counts){m, 1, m - 1}, (struct counts){m, 1, m - 1});
+        text[place] = 0;
+        check_window(&pattern, text, (struct counts){1, 1, 0}, (struct counts){place + 1, 1, place});
+        free(text);
+
+        m = POQEWAN_LONGEST_PATTERN;
+        text = lend(m);
+        memset(text, 'b', place);
+        memset(text + place, 'c', m - place);
+        text[0] = text[place] = 'a';
+        pattern = prepare(text, m, POQEWAN_SCRATCH, 0).pattern;
+        CHECK(pattern.noholes == m - 2);
+        check_window(&pattern, text, (struct counts){m, m - 2, 2}, (struct counts){m, m - 2, 2});
+        text[place] = 0;
+        check_window(&pattern, text, (struct counts){m - 1, m - 2, 1}, (struct counts){place + 1, place - 1, 2});
+        free(text);
+    }
+}
+
+/* 128 holes, then 128 noholes, and no period but 256: each repetition is compared once, and both columns pass 2^16. */
+static void test_large_columns(void)
+{
+    const size_t m = POQEWAN_LONGEST_PATTERN, times = 1000, n = times * m;
+    uint8_t *text = lend(n);
+    for (size_t b = 0; b < n; b++)
+        text[b] = b % m < m / 2 ? 'a' : 'b';
+    poqewan_pattern pattern = prepare(text, m, POQEWAN_SCRATCH, 0).pattern;
+    for (int s = 0; s < SEARCHES; s++) {
+        poqewan_report r = check_search(s, &pattern, text, n, UINT64_MAX, times);
+        CHECK(is_report(r, POQEWAN_DONE, 0, (struct counts){n, n / 2, n / 2}, times));
+    }
+    free(text);
+}
+
+/* Windows that miss at once: in Colussi's order at a nohole, by Knuth, Morris and Pratt at place 0, a hole. */
+static void test_misses(void)
+{
+    static const char *const patterns[] = {"ab", "aab", "abab", "aabaa"};
+    for (size_t i = 0; i < sizeof patterns / sizeof *patterns; i++)
+        for (size_t windows = 0; windows <= 20; windows++) {
+            poqewan_pattern pattern = prepared(patterns[i]);
+            size_t n = pattern.len - 1 + windows;
+            uint8_t *text = lend(n);
+            memset(text, 'c', n);
+            for (uint64_t cap = 0; cap <= windows; cap++) {
+                poqewan_report r = check_search(COLUSSI, &pattern, text, n, cap, 0);
+                CHECK(r.at_noholes == cap && r.at_holes == 0);
+                r = check_search(KMP, &pattern, text, n, cap, 0);
+                CHECK(r.at_noholes == 0 && r.at_holes == cap);
+            }
             free(text);
         }
 }
@@ -753,6 +923,7 @@ static void test_zero_in_text(void)
         check_limits(s, &pattern, text, 13);
         poqewan_report r = searches[s](pattern, text, 13, UINT64_MAX, list, 4);
         CHECK(r.refusal == 0 && r.ending == POQEWAN_DONE && r.written == 3);
+        CHECK(r.count == r.at_noholes + r.at_holes);
         CHECK(memcmp(list, positions, sizeof positions) == 0);
     }
     free(list);
@@ -851,7 +1022,7 @@ static void test_random_classes(size_t rounds)
             poqewan_report whole = check_search(s, &p.pattern, text, n, UINT64_MAX, n + 1);
             CHECK(whole.ending == POQEWAN_DONE);
             poqewan_report again = check_search(s, &q.pattern, text, n, UINT64_MAX, n + 1);
-            CHECK(is_report(again, POQEWAN_DONE, 0, whole.count, whole.written));
+            CHECK(is_report(again, POQEWAN_DONE, 0, counts_of(whole), whole.written));
             check_search(s, &p.pattern, text, n, random_below(whole.count + 2), random_below(whole.written + 2));
             found += whole.written;
         }
@@ -860,7 +1031,8 @@ static void test_random_classes(size_t rounds)
     CHECK(found > 0);
 }
 
-/* In a text of the greatest length, an occurrence in the last window is found. */
+/* In a text of the greatest length, an occurrence in the last window is found. Each window is compared at place 1, the only
+   nohole. Place 0 is compared in the last window alone, or by Knuth, Morris and Pratt in each. */
 static void test_longest_text(void)
 {
     const size_t n = POQEWAN_LONGEST_TEXT;
@@ -872,6 +1044,8 @@ static void test_longest_text(void)
         uint32_t *list = lend_list(1);
         poqewan_report r = searches[s](pattern, text, n, UINT64_MAX, list, 1);
         CHECK(r.refusal == 0 && r.ending == POQEWAN_DONE && r.written == 1 && list[0] == n - 2);
+        CHECK(r.at_noholes == n - 1 && r.at_holes == (s == COLUSSI ? 1 : n - 1));
+        CHECK(r.count == r.at_noholes + r.at_holes);
         CHECK(under_ceiling(s, r, 2, n));
         free(list);
     }
@@ -887,7 +1061,7 @@ static void test_longest_list(void)
     memset(text, 'a', n);
     for (int s = 0; s < SEARCHES; s++) {
         poqewan_report r = check_search(s, &pattern, text, n, UINT64_MAX, n - 1);
-        CHECK(is_report(r, POQEWAN_DONE, 0, n, n - 1));
+        CHECK(is_report(r, POQEWAN_DONE, 0, (struct counts){n, 0, n}, n - 1));
     }
     free(text);
 }
@@ -926,6 +1100,10 @@ int main(int argc, char **argv)
     test_false_lengths();
     test_junk(quick ? 100 : 1000);
     test_limits();
+    test_column_of_each_place();
+    if (!quick)
+        test_large_columns();
+    test_misses();
     test_zero_in_text();
     test_changed_classes();
     test_random_searches(quick ? 200 : 2000);

@@ -34,22 +34,22 @@ use Rattle.job.specs.Printed.{report-lines, search-lines}
 
 -- ---- A search that ran
 
--- A report is that of a search, and a list begins with the positions found.
-pub record Found (s : End) (r : Report) (list : List ℕ) : Type 0 where
-  pub report : r ≡ reportOf s
+-- A report is that of a search for w, and a list begins with the positions found.
+pub record Found (w : List ℕ) (s : End) (r : Report) (list : List ℕ) : Type 0 where
+  pub report : r ≡ reportOf w s
   pub inside : r .written ≤ length list
   pub positions : take (r .written) list ≡ s .last .found
 
-found-filled : (s : End) (lent : List ℕ) → Found s (reportOf s) (filled s lent)
+found-filled : (w : List ℕ) (s : End) (lent : List ℕ) → Found w s (reportOf w s) (filled s lent)
 unfolding reportOf filled
-found-filled s lent =
+found-filled w s lent =
     let found : List ℕ = s .last .found in
     let rest : List ℕ = drop (length found) lent in
     record { report = refl; inside = omega (arith, length-append found rest); positions = take-append-seam found rest }
 
-module _ (s : End) {a : SearchAnswer} (answered : a ≡ Ran (reportOf s)) where
-  pub found : {r : Report} (lent : List ℕ) {after : List ℕ} → after ≡ filled s lent → a ≡ Ran r → Found s r after
-  found {r = r} lent f e = let same : r ≡ reportOf s = cc in rw (same, f) (found-filled s lent)
+module _ (w : List ℕ) (s : End) {a : SearchAnswer} (answered : a ≡ Ran (reportOf w s)) where
+  pub found : {r : Report} (lent : List ℕ) {after : List ℕ} → after ≡ filled s lent → a ≡ Ran r → Found w s r after
+  found {r = r} lent f e = let same : r ≡ reportOf w s = cc in rw (same, f) (found-filled w s lent)
 
   pub not-refused : {why : Refusal} → a ≡ Refused why → ⊥
   not-refused e = let z : _≡_ {A = ℕ} 0 1 = cc in omega arith
@@ -60,7 +60,7 @@ lines-of-search : (s : End) → search-lines s ≡ report-lines (s .ending) (len
 unfolding search-lines
 lines-of-search s = refl
 
-pub lines-of-found : {s : End} {r : Report} {list : List ℕ} → Found s r list
+pub lines-of-found : {w : List ℕ} {s : End} {r : Report} {list : List ℕ} → Found w s r list
     → report-lines (r .ending) (r .count) (take (r .written) list) ≡ search-lines s
 unfolding reportOf
 lines-of-found {s = s} F = rw (F .positions, F .report) (sym (lines-of-search s))
@@ -88,7 +88,7 @@ module _ (w t : List ℕ) (preparable : Preparable w) (fits : length t ≤ longe
   -- What it answers, and what it leaves in the list.
   pub prepared-runs : {a : SearchAnswer} {after : List ℕ}
       → a ≡ answerBy colussi (q .pattern) t cap (length lent) → after ≡ listBy colussi (q .pattern) t cap lent
-      → (a ≡ Ran (reportOf (colussi w t cap (length lent)))) × (after ≡ filled (colussi w t cap (length lent)) lent)
+      → (a ≡ Ran (reportOf w (colussi w t cap (length lent)))) × (after ≡ filled (colussi w t cap (length lent)) lent)
   prepared-runs e l = (
     e ∙ rw (letters, text-plain (q .pattern) classes t) at (ran-answer colussi (q .pattern) t cap lent let-in),
     l ∙ rw (letters, text-plain (q .pattern) classes t) at (ran-list colussi (q .pattern) t cap lent let-in),

@@ -40,13 +40,15 @@ carriedReport r = record {
   ending = endingNumber (r .ending);
   window = endingWindow (r .ending);
   count = r .count;
+  noholes = r .noholes;
+  holes = r .holes;
   written = r .written;
 }
 
 -- An answer: beside a refusal all else is 0.
 abbrev pub carried : SearchAnswer → SearchReport
 carried (Ran r) = carriedReport r
-carried (answers.Refused why) = record { refusal = numberOf why; ending = 0; window = 0; count = 0; written = 0 }
+carried (answers.Refused why) = record { refusal = numberOf why; ending = 0; window = 0; count = 0; noholes = 0; holes = 0; written = 0 }
 
 -- Read back: the ending that a number and a window stand for, and the report.
 abbrev pub endingOf : ℕ → ℕ → Ending
@@ -55,4 +57,10 @@ endingOf (suc zero) b = Spent b
 endingOf (suc (suc n)) b = Full b
 
 abbrev pub reportIn : SearchReport → Report
-reportIn r = record { ending = endingOf (r .ending) (r .window); count = r .count; written = r .written }
+reportIn r = record {
+  ending = endingOf (r .ending) (r .window);
+  count = r .count;
+  noholes = r .noholes;
+  holes = r .holes;
+  written = r .written;
+}

@@ -18,6 +18,7 @@ ghost use Rattle.pattern.specs.Letters.{ownBytes, wordOf, textOf};
 ghost use Rattle.preparation.specs.Prepared.{prepared, plainPrepared, scratchAfter, plainScratch, Cleared};
 ghost use Rattle.rules.specs.Colussi.{colussi};
 ghost use Rattle.rules.specs.Kmp.{kmp};
+ghost use Rattle.rules.specs.Report.{Columns};
 ghost use Rattle.search.specs.Answer.{answerBy, listBy, plainAnswerBy, plainListBy};
 ghost use Rattle.search.specs.Promise.{Located, ListedBy, UnderCeiling, UnderKmpCeiling, AsColussi, NoZeroCovered};
 ghost use Rattle.poqewan.specs.Carried.{outcomeNumber, carriedPreparation, endingNumber, endingWindow, carriedReport, carried, reportIn};
@@ -31,13 +32,15 @@ pub struct Preparation {
 }
 
 // The number of a refusal, and then all else is 0; or 0 and the report of a search. Its ending is 0 for done, 1 for spent and 2 for full,
-// at a window, which is 0 for done.
+// at a window, which is 0 for done. The columns are at_noholes and at_holes in C and Rust.
 #[repr(C)]
 pub struct SearchReport {
     pub refusal: u32,
     pub ending: u32,
     pub window: usize,
     pub count: u64,
+    pub noholes: u64,
+    pub holes: u64,
     pub written: usize,
 }
 
@@ -79,6 +82,8 @@ fn carry_report(report: Report) -> SearchReport
         ending: ending_number(ending),
         window: ending_window(ending),
         count: report.count,
+        noholes: report.noholes,
+        holes: report.holes,
         written: report.written,
     }
 }
@@ -93,6 +98,8 @@ fn carry(answer: SearchAnswer) -> SearchReport
             ending: 0,
             window: 0,
             count: 0,
+            noholes: 0,
+            holes: 0,
             written: 0,
         },
     }
@@ -148,6 +155,7 @@ pub extern "C" fn poqewan_colussi(
     ensures list { λ r. ⌜ now (positions .exit) ≡ listBy colussi pattern (now (text .entry)) cap (now (positions .entry)) ⌝ }
     ensures accurate { λ r. ⌜ (r .refusal ≡ 0 → Located colussi (wordOf pattern) (textOf pattern (now (text .entry))) cap (now (positions .exit)) (reportIn r)) ⌝ }
     ensures classed { λ r. ⌜ (r .refusal ≡ 0 → ListedBy (pattern .classes) (ownBytes pattern) (now (text .entry)) (now (positions .exit)) (reportIn r)) ⌝ }
+    ensures columns { λ r. ⌜ (r .refusal ≡ 0 → Columns (wordOf pattern) (colussi (wordOf pattern) (textOf pattern (now (text .entry))) cap (length (now (positions .entry))) .last .made) (reportIn r)) ⌝ }
     ensures ceiling { λ r. ⌜ (r .refusal ≡ 0 → UnderCeiling (length (wordOf pattern)) (length (now (text .entry))) (reportIn r)) ⌝ }
     ensures zeros { λ r. ⌜ (r .refusal ≡ 0 → NoZeroCovered (length (wordOf pattern)) (now (text .entry)) (now (positions .exit)) (reportIn r)) ⌝ }
     ensures plain { λ r. ⌜ (pattern .classes ≡ identity → (r ≡ carried (plainAnswerBy colussi pattern (now (text .entry)) cap (length (now (positions .entry))))) × (now (positions .exit) ≡ plainListBy colussi pattern (now (text .entry)) cap (now (positions .entry)))) ⌝ }
@@ -168,6 +176,7 @@ pub extern "C" fn poqewan_kmp(
     ensures list { λ r. ⌜ now (positions .exit) ≡ listBy kmp pattern (now (text .entry)) cap (now (positions .entry)) ⌝ }
     ensures accurate { λ r. ⌜ (r .refusal ≡ 0 → Located kmp (wordOf pattern) (textOf pattern (now (text .entry))) cap (now (positions .exit)) (reportIn r)) ⌝ }
     ensures classed { λ r. ⌜ (r .refusal ≡ 0 → ListedBy (pattern .classes) (ownBytes pattern) (now (text .entry)) (now (positions .exit)) (reportIn r)) ⌝ }
+    ensures columns { λ r. ⌜ (r .refusal ≡ 0 → Columns (wordOf pattern) (kmp (wordOf pattern) (textOf pattern (now (text .entry))) cap (length (now (positions .entry))) .last .made) (reportIn r)) ⌝ }
     ensures ceiling { λ r. ⌜ (r .refusal ≡ 0 → UnderKmpCeiling (length (wordOf pattern)) (length (now (text .entry))) (reportIn r)) ⌝ }
     ensures same { λ r. ⌜ (r .refusal ≡ 0 → AsColussi (wordOf pattern) (textOf pattern (now (text .entry))) (now (positions .exit)) (reportIn r)) ⌝ }
     ensures zeros { λ r. ⌜ (r .refusal ≡ 0 → NoZeroCovered (length (wordOf pattern)) (now (text .entry)) (now (positions .exit)) (reportIn r)) ⌝ }

@@ -8,6 +8,7 @@ use native.Mathlib.Numerals.{add-one}
 use lib.ListN.{length, take, drop, set, length-set, take-append-drop}
 use lib.Seq.{take-suc-set, drop-set-lt, length-take-le, drop-drop}
 use Rattle.rules.specs.Rules.{Plan, Source, Compared, stop, edge-after, leave, listed, turn, search}
+use Rattle.rules.specs.Columns.{at-noholes, at-holes}
 use Rattle.rules.specs.Report.{reportOf, filled, Reported}
 use Rattle.rules.specs.Internal.Passing.{Established, Due, at, one, Visits, Passes}
 use Rattle.rules.specs.declared.Ending.{Ending}
@@ -101,25 +102,28 @@ module _ (plan : Plan) (source : Source) (cap : ℕ) (before : List ℕ) where
     found : length (take k after) ≡ k
     found = length-take-le k after (F .room)
 
-    -- The search stops here.
-    reports : (x : Ending) → search plan source cap (length before) ≡ record { ending = x; last = at b i e made (take k after) }
-        → Reported (search plan source cap (length before)) before after record { ending = x; count = length made; written = k }
-    unfolding reportOf filled
-    reports x s = record { report = rw (s, found) refl; list = rw (s, found, ← F .tail) (sym (take-append-drop k after)) }
+    -- The report for a pattern w, of the comparisons made.
+    abbrev report : List ℕ → Ending → Report
+    report w x = record { ending = x; count = length made; noholes = at-noholes w made; holes = at-holes w made; written = k }
 
-    pub reports-done : source .n < b + plan .m
-        → Reported (search plan source cap (length before)) before after record { ending = Done; count = length made; written = k }
-    reports-done l = reports Done (stands-done plan source cap (length before) R (F .stands) l)
+    -- The search stops here.
+    reports : (w : List ℕ) (x : Ending) → search plan source cap (length before) ≡ record { ending = x; last = at b i e made (take k after) }
+        → Reported w (search plan source cap (length before)) before after (report w x)
+    unfolding reportOf filled
+    reports w x s = record { report = rw (s, found) refl; list = rw (s, found, ← F .tail) (sym (take-append-drop k after)) }
+
+    pub reports-done : (w : List ℕ) → source .n < b + plan .m → Reported w (search plan source cap (length before)) before after (report w Done)
+    reports-done w l = reports w Done (stands-done plan source cap (length before) R (F .stands) l)
 
     module _ (fits : b + plan .m ≤ source .n) where
-      pub reports-spent : Due plan b i e → length made ≡ cap
-          → Reported (search plan source cap (length before)) before after record { ending = Spent b; count = length made; written = k }
-      reports-spent d l = reports (Spent b) (stands-spent plan source cap (length before) R (F .stands) fits d l)
+      pub reports-spent : (w : List ℕ) → Due plan b i e → length made ≡ cap
+          → Reported w (search plan source cap (length before)) before after (report w (Spent b))
+      reports-spent w d l = reports w (Spent b) (stands-spent plan source cap (length before) R (F .stands) fits d l)
 
       module _ (established : Established plan b i e) where
-        pub reports-full : k ≡ length after
-            → Reported (search plan source cap (length before)) before after record { ending = Full b; count = length made; written = k }
-        reports-full l = reports (Full b) (stands-full plan source cap (length before) R (F .stands) fits established (omega (arith, found, F .size)))
+        pub reports-full : (w : List ℕ) → k ≡ length after
+            → Reported w (search plan source cap (length before)) before after (report w (Full b))
+        reports-full w l = reports w (Full b) (stands-full plan source cap (length before) R (F .stands) fits established (omega (arith, found, F .size)))
 
         pub follows-listed : (k ≡ length after → ⊥)
             → Follows (set after k b) (b + plan .shift (plan .m)) (plan .next (plan .m)) (edge-after plan (plan .m) b e) made (k + 1)

@@ -10,6 +10,7 @@ pub mod Ceiling
 pub mod ColussiMethod
 pub mod KmpMethod
 pub mod SamePositions
+pub mod Columns
 pub mod Passing
 pub mod Following
 pub mod Scans

@@ -1,77 +1,106 @@
--- A scan of a text by code that counts the comparisons and does not keep them: `Follows`, in the variables of the code. Assumes nothing.
+-- A scan of a text by code that counts the comparisons, and those of one column, and does not keep them: `Follows`, in the variables of the
+-- code. Assumes nothing.
 use Prim.Native.Nat.{ℕ, suc, _+_, _≤_, _<_}
 use mathlib.Core.Path.{_≡_, refl, sym, ap, _∙_}
-use mathlib.Core.Bool.{true, false}
+use mathlib.Core.Bool.{Bool, true, false, cond}
 use mathlib.Core.List.{List, [], _∷_}
 use native.Mathlib.Omega.{arith}
 use lib.ListN.{length, set}
 use borrow.Author.Tests.{eq-eqb, ne-eqb}
 use Rattle.rules.specs.Rules.{Plan, text-source, Compared, edge-after, search}
 use Rattle.rules.specs.Internal.Passing.{Established, Due, Agree, one, Passes}
+use Rattle.rules.specs.Columns.{made-at}
 use Rattle.rules.specs.Report.{Reported}
+use Rattle.rules.specs.declared.Ending.{Ending}
 use Rattle.rules.specs.declared.Ending.the-variants.{Done, Spent, Full}
+use Rattle.rules.specs.declared.Report.{Report}
+use Rattle.rules.proofs.Columns.{made-none, made-more, made-upto, Split}
 use Rattle.rules.proofs.Following.{Ranges, stands-on, stands-matched, stands-missed, Follows, follows-start, follows-on, follows-listed, reports-done, reports-spent, reports-full}
 
--- The count c is that of the comparisons made.
-pub record Scans (plan : Plan) (w t : List ℕ) (cap : ℕ) (before after : List ℕ) (b i e c k : ℕ) : Type 0 where
+-- The count c is that of the comparisons made, and x of those at places that pass q.
+pub record Scans (q : ℕ → Bool) (plan : Plan) (w t : List ℕ) (cap : ℕ) (before after : List ℕ) (b i e c x k : ℕ) : Type 0 where
   pub made : List Compared
   pub count : length made ≡ c
+  pub column : made-at q made ≡ x
   pub follows : Follows plan (text-source w t) cap before after b i e made k
 
-module _ {plan : Plan} {w t : List ℕ} {cap : ℕ} {before after : List ℕ} {b i e c k : ℕ} (F : Scans plan w t cap before after b i e c k) where
+module _ {q : ℕ → Bool} {plan : Plan} {w t : List ℕ} {cap : ℕ} {before after : List ℕ} {b i e c x k : ℕ}
+    (F : Scans q plan w t cap before after b i e c x k) where
   pub rank-upto : i ≤ plan .m
   rank-upto = F .follows .stands .rank
 
   pub capped : c ≤ cap
   capped = omega (arith, F .follows .stands .capped, F .count)
 
-module _ (plan : Plan) (w t : List ℕ) (cap : ℕ) (before : List ℕ) where
-  pub scans-start : Scans plan w t cap before before 0 0 0 0 0
-  scans-start = record { made = []; count = refl; follows = follows-start _ _ _ before }
+  pub column-upto : x ≤ c
+  column-upto = omega (arith, made-upto q (F .made), F .count, F .column)
 
-  module _ (R : Ranges plan) {after : List ℕ} {b i e c k : ℕ} (F : Scans plan w t cap before after b i e c k) where
-    -- On to other comparisons made, of which the code has the count.
-    pub scans-on : {b' i' e' c' : ℕ} (made' : List Compared) → length made' ≡ c'
+  -- The count and the column as other expressions have them.
+  pub scans-as : {c' x' : ℕ} → c' ≡ c → x' ≡ x → Scans q plan w t cap before after b i e c' x' k
+  scans-as count column = rw (count, column) F
+
+module _ (q : ℕ → Bool) (plan : Plan) (w t : List ℕ) (cap : ℕ) (before : List ℕ) where
+  pub scans-start : Scans q plan w t cap before before 0 0 0 0 0 0
+  scans-start = record { made = []; count = refl; column = made-none q; follows = follows-start _ _ _ before }
+
+  module _ (R : Ranges plan) {after : List ℕ} {b i e c x k : ℕ} (F : Scans q plan w t cap before after b i e c x k) where
+    -- On to other comparisons made, of which the code has the count and the column.
+    pub scans-on : {b' i' e' c' x' : ℕ} (made' : List Compared) → length made' ≡ c' → made-at q made' ≡ x'
         → Passes plan (text-source w t) cap b i e (F .made) b' i' e' made' → b' ≤ length t → i' ≤ plan .m → c' ≤ cap
-        → Scans plan w t cap before after b' i' e' c' k
-    scans-on made' count P window rank capped = record {
+        → Scans q plan w t cap before after b' i' e' c' x' k
+    scans-on made' count column P window rank capped = record {
       made = made';
       count = count;
+      column = column;
       follows = follows-on _ _ cap before R (F .follows) (stands-on _ _ cap _ R (F .follows .stands) P window rank (omega arith));
     }
 
-    pub scans-done : length t < b + plan .m
-        → Reported (search plan (text-source w t) cap (length before)) before after record { ending = Done; count = c; written = k }
-    scans-done l = rw (F .count) at (reports-done _ _ cap before R (F .follows) l)
+    -- The search ends here, with the columns u and v.
+    module _ {u v : ℕ} (S : Split w (F .made) u v) where
+      abbrev Ends : Ending → Type 0
+      Ends x = Reported w (search plan (text-source w t) cap (length before)) before after
+          record { ending = x; count = c; noholes = u; holes = v; written = k }
+
+      pub scans-done : length t < b + plan .m → Ends Done
+      scans-done l = rw (F .count, S .noholes, S .holes) at (reports-done _ _ cap before R (F .follows) w l)
+
+      module _ (fits : b + plan .m ≤ length t) where
+        pub scans-spent : Due plan b i e → c ≡ cap → Ends (Spent b)
+        scans-spent due l = rw (F .count, S .noholes, S .holes) at (reports-spent _ _ cap before R (F .follows) fits w due (F .count ∙ l))
+
+        pub scans-full : Established plan b i e → k ≡ length after → Ends (Full b)
+        scans-full established l = rw (F .count, S .noholes, S .holes) at (reports-full _ _ cap before R (F .follows) fits established w l)
 
     module _ (fits : b + plan .m ≤ length t) where
-      module _ (due : Due plan b i e) where
-        pub scans-spent : c ≡ cap → Reported (search plan (text-source w t) cap (length before)) before after record { ending = Spent b; count = c; written = k }
-        scans-spent l = rw (F .count) at (reports-spent _ _ cap before R (F .follows) fits due (F .count ∙ l))
+      -- A comparison is made, and the column has x' then.
+      module _ (due : Due plan b i e) (more : c ≡ cap → ⊥) {x' : ℕ} (adds : x' ≡ cond (q (plan .place i)) 1 0 + x) where
+        column-more : (equal : Bool) → made-at q (one plan b i equal ∷ F .made) ≡ x'
+        column-more equal = made-more q (one plan b i equal) (F .made) ∙ ap (λ n. cond (q (plan .place i)) 1 0 + n) (F .column) ∙ sym adds
 
-        module _ (more : c ≡ cap → ⊥) where
-          pub scans-matched : Agree plan w t b i → Scans plan w t cap before after b (suc i) e (suc c) k
-          scans-matched q = record {
-            made = one plan b i true ∷ F .made;
-            count = ap suc (F .count);
-            follows = follows-on _ _ cap before R (F .follows)
-                (stands-matched _ _ cap _ R (F .follows .stands) fits due (λ z. more (sym (F .count) ∙ z)) (eq-eqb _ _ q));
-          }
+        pub scans-matched : Agree plan w t b i → Scans q plan w t cap before after b (suc i) e (suc c) x' k
+        scans-matched a = record {
+          made = one plan b i true ∷ F .made;
+          count = ap suc (F .count);
+          column = column-more true;
+          follows = follows-on _ _ cap before R (F .follows)
+              (stands-matched _ _ cap _ R (F .follows .stands) fits due (λ z. more (sym (F .count) ∙ z)) (eq-eqb _ _ a));
+        }
 
-          pub scans-missed : (Agree plan w t b i → ⊥)
-              → Scans plan w t cap before after (b + plan .shift i) (plan .next i) (edge-after plan i b e) (suc c) k
-          scans-missed q = record {
-            made = one plan b i false ∷ F .made;
-            count = ap suc (F .count);
-            follows = follows-on _ _ cap before R (F .follows)
-                (stands-missed _ _ cap _ R (F .follows .stands) fits due (λ z. more (sym (F .count) ∙ z)) (ne-eqb _ _ q));
-          }
+        pub scans-missed : (Agree plan w t b i → ⊥)
+            → Scans q plan w t cap before after (b + plan .shift i) (plan .next i) (edge-after plan i b e) (suc c) x' k
+        scans-missed a = record {
+          made = one plan b i false ∷ F .made;
+          count = ap suc (F .count);
+          column = column-more false;
+          follows = follows-on _ _ cap before R (F .follows)
+              (stands-missed _ _ cap _ R (F .follows .stands) fits due (λ z. more (sym (F .count) ∙ z)) (ne-eqb _ _ a));
+        }
 
-      module _ (established : Established plan b i e) where
-        pub scans-full : k ≡ length after
-            → Reported (search plan (text-source w t) cap (length before)) before after record { ending = Full b; count = c; written = k }
-        scans-full l = rw (F .count) at (reports-full _ _ cap before R (F .follows) fits established l)
-
-        pub scans-listed : (k ≡ length after → ⊥) → Scans plan w t cap before (set after k b)
-            (b + plan .shift (plan .m)) (plan .next (plan .m)) (edge-after plan (plan .m) b e) c (k + 1)
-        scans-listed l = record { made = F .made; count = F .count; follows = follows-listed _ _ cap before R (F .follows) fits established l }
+      pub scans-listed : Established plan b i e → (k ≡ length after → ⊥) → Scans q plan w t cap before (set after k b)
+          (b + plan .shift (plan .m)) (plan .next (plan .m)) (edge-after plan (plan .m) b e) c x (k + 1)
+      scans-listed established l = record {
+        made = F .made;
+        count = F .count;
+        column = F .column;
+        follows = follows-listed _ _ cap before R (F .follows) fits established l;
+      }

@@ -3,6 +3,7 @@ pub mod Occurs
 pub mod Rules
 pub mod Colussi
 pub mod Kmp
+pub mod Columns
 pub mod Report
 pub mod Promise
 pub mod Internal

@@ -1,6 +1,6 @@
 -- The promises in plain terms, as laws of what a search answers. Assumes nothing.
 use Prim.Native.Nat.{ℕ, _≤_, _<_}
-use mathlib.Core.Path.{_≡_, sym, _∙_}
+use mathlib.Core.Path.{_≡_, refl, sym, _∙_}
 use mathlib.Core.List.{List, _++_}
 use native.Mathlib.Omega.{arith}
 use lib.ListN.{length, getD, take, drop, length-append, length-drop, List·getD-append}
@@ -17,9 +17,10 @@ use Rattle.rules.specs.Colussi.{colussi}
 use Rattle.rules.specs.Kmp.{kmp}
 use Rattle.rules.specs.Occurs.{Occurs, CoversNo}
 use Rattle.rules.specs.Promise.{CutOff}
-use Rattle.rules.specs.Report.{reportOf, filled}
+use Rattle.rules.specs.Report.{reportOf, filled, Columns}
 use Rattle.rules.specs.declared.Ending.{Ending}
 use Rattle.rules.specs.declared.Ending.the-variants.{Done, Spent, Full}
+use Rattle.rules.proofs.Columns.{columns-sum}
 use Rattle.rules.proofs.Method.{Finds}
 use Rattle.rules.proofs.ColussiMethod.{colussi-finds, colussi-ceiling}
 use Rattle.rules.proofs.KmpMethod.{kmp-finds, kmp-ceiling}
@@ -31,9 +32,9 @@ use Rattle.search.proofs.Classes.{occurs-by, occurs-through, covers-no-
 use Rattle.search.proofs.Answers.{Answers, plain, promised}
 
 -- The list begins with the positions found.
-begins-with-found : (s : End) (lent : List ℕ) → take (reportOf s .written) (filled s lent) ≡ s .last .found
+begins-with-found : (w : List ℕ) (s : End) (lent : List ℕ) → take (reportOf w s .written) (filled s lent) ≡ s .last .found
 unfolding reportOf filled
-begins-with-found s lent = take-append-seam (s .last .found) (drop (length (s .last .found)) lent)
+begins-with-found w s lent = take-append-seam (s .last .found) (drop (length (s .last .found)) lent)
 
 module _ (search : Search) (w t : List ℕ) (cap : ℕ) (lent : List ℕ) where
   -- No search writes more positions than the list has entries.
@@ -44,7 +45,7 @@ module _ (search : Search) (w t : List ℕ) (cap : ℕ) (lent : List ℕ) where
 
   -- Demand 2.
   pub located : Finds search w t cap (length lent)
-      → Located search w t cap (filled (search w t cap (length lent)) lent) (reportOf (search w t cap (length lent)))
+      → Located search w t cap (filled (search w t cap (length lent)) lent) (reportOf w (search w t cap (length lent)))
   unfolding reportOf filled
   located F =
       let s : End = search w t cap (length lent) in
@@ -57,6 +58,11 @@ module _ (search : Search) (w t : List ℕ) (cap : ℕ) (lent : List ℕ) where
         lists = rw (take-append-seam found (drop (length found) lent)) (F .lists);
         cut-off = rw size (F .cut-off);
       }
+
+-- Document 02, C-16: the columns.
+in-columns : (w : List ℕ) (s : End) → Columns w (s .last .made) (reportOf w s)
+unfolding reportOf
+in-columns w s = record { noholes = refl; holes = refl; sum = sym (columns-sum w (s .last .made)) }
 
 -- Document 02, C-13: an occurrence of a prepared pattern covers no place where the text holds 0.
 pub occurrence-covers-no-zero : (p : Pattern) (t : List ℕ) (b : ℕ) → IsPrepared p → Occurs (wordOf p) (textOf p t) b → CoversNo 0 (length (wordOf p)) t b
@@ -73,7 +79,7 @@ module _ (p : Pattern) (t : List ℕ) (cap : ℕ) (lent : List ℕ) where
   -- So no occurrence that a search lists covers one.
   no-zero-covered : (search : Search) → IsAdmitted p (length t) → Finds search (wordOf p) (textOf p t) cap (length lent)
       → NoZeroCovered (length (wordOf p)) t (filled (search (wordOf p) (textOf p t) cap (length lent)) lent)
-      (reportOf (search (wordOf p) (textOf p t) cap (length lent)))
+      (reportOf (wordOf p) (search (wordOf p) (textOf p t) cap (length lent)))
   unfolding reportOf filled
   no-zero-covered search I F i l =
       let found : List ℕ = search (wordOf p) (textOf p t) cap (length lent) .last .found in
@@ -90,7 +96,7 @@ module _ (p : Pattern) (t : List ℕ) (cap : ℕ) (lent : List ℕ) where
 
   listed-by : (search : Search) → Finds search (wordOf p) (textOf p t) cap (length lent)
       → ListedBy (p .classes) (ownBytes p) t (filled (search (wordOf p) (textOf p t) cap (length lent)) lent)
-      (reportOf (search (wordOf p) (textOf p t) cap (length lent)))
+      (reportOf (wordOf p) (search (wordOf p) (textOf p t) cap (length lent)))
   unfolding reportOf filled
   listed-by search F =
       let found : List ℕ = search (wordOf p) (textOf p t) cap (length lent) .last .found in
@@ -107,8 +113,9 @@ module _ (p : Pattern) (t : List ℕ) (cap : ℕ) (lent : List ℕ) where
   pub colussi-promises : {r : SearchAnswer} {after : List ℕ} → Answers colussi p t cap lent r after
       → (r ≡ answerBy colussi p t cap (length lent)) × ((after ≡ listBy colussi p t cap lent)
       × (IfRan (Located colussi (wordOf p) (textOf p t) cap after) r × (IfRan (ListedBy (p .classes) (ownBytes p) t after) r
+      × (IfRan (Columns (wordOf p) (colussi (wordOf p) (textOf p t) cap (length lent) .last .made)) r
       × (IfRan (UnderCeiling (length (wordOf p)) (length t)) r × (IfRan (NoZeroCovered (length (wordOf p)) t after) r
-      × (p .classes ≡ identity → (r ≡ plainAnswerBy colussi p t cap (length lent)) × (after ≡ plainListBy colussi p t cap lent)))))))
+      × (p .classes ≡ identity → (r ≡ plainAnswerBy colussi p t cap (length lent)) × (after ≡ plainListBy colussi p t cap lent))))))))
   colussi-promises A = (
     A .answer,
     (
@@ -120,12 +127,16 @@ module _ (p : Pattern) (t : List ℕ) (cap : ℕ) (lent : List ℕ) where
           promised colussi p t cap lent (ListedBy (p .classes) (ownBytes p) t)
               (λ I. listed-by colussi (colussi-finds (wordOf p) (textOf p t) (some I) cap (length lent))) A,
           (
-            promised colussi p t cap lent (λ after r. UnderCeiling (length (wordOf p)) (length t) r)
-                (λ I. unfold reportOf in rw (length-text p t) at (colussi-ceiling (wordOf p) (textOf p t) (some I) cap (length lent))) A,
+            promised colussi p t cap lent (λ after r. Columns (wordOf p) (colussi (wordOf p) (textOf p t) cap (length lent) .last .made) r)
+                (λ I. in-columns (wordOf p) (colussi (wordOf p) (textOf p t) cap (length lent))) A,
             (
-              promised colussi p t cap lent (NoZeroCovered (length (wordOf p)) t)
-                  (λ I. no-zero-covered colussi I (colussi-finds (wordOf p) (textOf p t) (some I) cap (length lent))) A,
-              λ e. plain colussi p t cap lent e A,
+              promised colussi p t cap lent (λ after r. UnderCeiling (length (wordOf p)) (length t) r)
+                  (λ I. unfold reportOf in rw (length-text p t) at (colussi-ceiling (wordOf p) (textOf p t) (some I) cap (length lent))) A,
+              (
+                promised colussi p t cap lent (NoZeroCovered (length (wordOf p)) t)
+                    (λ I. no-zero-covered colussi I (colussi-finds (wordOf p) (textOf p t) (some I) cap (length lent))) A,
+                λ e. plain colussi p t cap lent e A,
+              ),
             ),
           ),
         ),
@@ -137,9 +148,10 @@ module _ (p : Pattern) (t : List ℕ) (cap : ℕ) (lent : List ℕ) where
   pub kmp-promises : {r : SearchAnswer} {after : List ℕ} → Answers kmp p t cap lent r after
       → (r ≡ answerBy kmp p t cap (length lent)) × ((after ≡ listBy kmp p t cap lent)
       × (IfRan (Located kmp (wordOf p) (textOf p t) cap after) r × (IfRan (ListedBy (p .classes) (ownBytes p) t after) r
+      × (IfRan (Columns (wordOf p) (kmp (wordOf p) (textOf p t) cap (length lent) .last .made)) r
       × (IfRan (UnderKmpCeiling (length (wordOf p)) (length t)) r
       × (IfRan (AsColussi (wordOf p) (textOf p t) after) r × (IfRan (NoZeroCovered (length (wordOf p)) t after) r
-      × (p .classes ≡ identity → (r ≡ plainAnswerBy kmp p t cap (length lent)) × (after ≡ plainListBy kmp p t cap lent))))))))
+      × (p .classes ≡ identity → (r ≡ plainAnswerBy kmp p t cap (length lent)) × (after ≡ plainListBy kmp p t cap lent)))))))))
   kmp-promises A = (
     A .answer,
     (
@@ -151,16 +163,20 @@ module _ (p : Pattern) (t : List ℕ) (cap : ℕ) (lent : List ℕ) where
           promised kmp p t cap lent (ListedBy (p .classes) (ownBytes p) t)
               (λ I. listed-by kmp (kmp-finds (wordOf p) (textOf p t) (some I) cap (length lent))) A,
           (
-            promised kmp p t cap lent (λ after r. UnderKmpCeiling (length (wordOf p)) (length t) r)
-                (λ I. unfold reportOf in rw (length-text p t) at (kmp-ceiling (wordOf p) (textOf p t) (some I) cap (length lent))) A,
+            promised kmp p t cap lent (λ after r. Columns (wordOf p) (kmp (wordOf p) (textOf p t) cap (length lent) .last .made) r)
+                (λ I. in-columns (wordOf p) (kmp (wordOf p) (textOf p t) cap (length lent))) A,
             (
-              promised kmp p t cap lent (AsColussi (wordOf p) (textOf p t))
-                  (λ I done cap' size' done'. begins-with-found (kmp (wordOf p) (textOf p t) cap (length lent)) lent
-                  ∙ sym (same-positions (wordOf p) (textOf p t) (some I) cap' size' cap (length lent) done' (unfold reportOf in done))) A,
+              promised kmp p t cap lent (λ after r. UnderKmpCeiling (length (wordOf p)) (length t) r)
+                  (λ I. unfold reportOf in rw (length-text p t) at (kmp-ceiling (wordOf p) (textOf p t) (some I) cap (length lent))) A,
               (
-                promised kmp p t cap lent (NoZeroCovered (length (wordOf p)) t)
-                    (λ I. no-zero-covered kmp I (kmp-finds (wordOf p) (textOf p t) (some I) cap (length lent))) A,
-                λ e. plain kmp p t cap lent e A,
+                promised kmp p t cap lent (AsColussi (wordOf p) (textOf p t))
+                    (λ I done cap' size' done'. begins-with-found (wordOf p) (kmp (wordOf p) (textOf p t) cap (length lent)) lent
+                    ∙ sym (same-positions (wordOf p) (textOf p t) (some I) cap' size' cap (length lent) done' (unfold reportOf in done))) A,
+                (
+                  promised kmp p t cap lent (NoZeroCovered (length (wordOf p)) t)
+                      (λ I. no-zero-covered kmp I (kmp-finds (wordOf p) (textOf p t) (some I) cap (length lent))) A,
+                  λ e. plain kmp p t cap lent e A,
+                ),
               ),
             ),
           ),

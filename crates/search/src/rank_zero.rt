@@ -54,15 +54,15 @@ fn least(a: u64, b: u64) -> u64
     if a < b { a } else { b }
 }
 
-// A window, the rank reached in it and the count.
+// A window, the rank reached in it and what is left of the cap.
 pub struct Spot {
     pub window: usize,
     pub rank: usize,
-    pub count: u64,
+    pub left: u64,
 }
 
 // From rank 0 of window b, where x is due at place o: past the windows that miss, to rank 1 of the first that does not. It stops at rank 0
-// past the last window, or where the cap is spent.
+// past the last window, or where nothing is left of the cap.
 pub fn ahead<'a>(
     classes: &'a [u8],
     text: &'a [u8],
@@ -70,18 +70,17 @@ pub fn ahead<'a>(
     o: usize,
     last: usize,
     b: usize,
-    c: u64,
-    cap: u64,
+    left: u64,
 ) -> Spot
     requires { ⌜ length (now classes) ≡ classCount ⌝ }
-    requires { ⌜ (b ≤ last) × (last + o < length (now text)) × (length (now text) < 2 ^ 32) × (c ≤ cap) ⌝ }
-    ensures { λ r. ⌜ Ahead (through (now (classes .entry)) (now (text .entry))) x o last cap b c (r .window) (r .rank) (r .count) ⌝ }
+    requires { ⌜ (b ≤ last) × (last + o < length (now text)) × (length (now text) < 2 ^ 32) ⌝ }
+    ensures { λ r. ⌜ Ahead (through (now (classes .entry)) (now (text .entry))) x o last b left (r .window) (r .rank) (r .left) ⌝ }
 {
-    if c == cap {
+    if left == 0 {
         return Spot {
             window: b,
             rank: 0,
-            count: c,
+            left,
         };
     }
     let from = b + o;
@@ -89,21 +88,21 @@ pub fn ahead<'a>(
         return Spot {
             window: b,
             rank: 1,
-            count: c + 1,
+            left: left - 1,
         };
     }
-    let room = least((last - b) as u64, cap - c - 1) as usize;
+    let room = least((last - b) as u64, left - 1) as usize;
     let k = skip(classes, text, x, from + 1, from + 1 + room) - from;
     if k <= room {
         return Spot {
             window: b + k,
             rank: 1,
-            count: c + k as u64 + 1,
+            left: left - 1 - k as u64,
         };
     }
     Spot {
         window: b + k,
         rank: 0,
-        count: c + k as u64,
+        left: left - k as u64,
     }
 }

@@ -37,6 +37,7 @@ struct Tally {
     searches: u64,
     places: u64,
     comparisons: u64,
+    noholes: u64,
 }
 
 impl Tally {
@@ -45,6 +46,7 @@ impl Tally {
             searches: 0,
             places: 0,
             comparisons: 0,
+            noholes: 0,
         }
     }
 
@@ -52,6 +54,7 @@ impl Tally {
         self.searches = wrapping_add_u64(self.searches, more.searches);
         self.places = wrapping_add_u64(self.places, more.places);
         self.comparisons = wrapping_add_u64(self.comparisons, more.comparisons);
+        self.noholes = wrapping_add_u64(self.noholes, more.noholes);
         self
     }
 }
@@ -81,6 +84,7 @@ fn search_by(
 struct Run {
     end: u64,
     count: u64,
+    noholes: u64,
     written: u64,
 }
 
@@ -89,6 +93,7 @@ fn run_of(answer: SearchAnswer) -> Run {
         return Run {
             end: NEITHER,
             count: 0,
+            noholes: 0,
             written: 0,
         };
     };
@@ -101,6 +106,7 @@ fn run_of(answer: SearchAnswer) -> Run {
     Run {
         end,
         count: report.count,
+        noholes: report.noholes,
         written: report.written as u64,
     }
 }
@@ -119,6 +125,7 @@ fn try_search(by_kmp: bool, bytes: &[u8], text: &[u8]) -> Tally
             searches: 1,
             places: one.written,
             comparisons: one.count,
+            noholes: one.noholes,
         };
     }
     Tally::none()
@@ -143,6 +150,7 @@ fn show(name: &[u8], tally: Tally) {
     say(name, tally.searches);
     say(b", places ", tally.places);
     say(b", comparisons ", tally.comparisons);
+    say(b", at noholes ", tally.noholes);
 }
 
 // Shows the tally of all cases, and hands back how many searches are not right.

@@ -9,7 +9,7 @@ use lib.Dec.{ltb, eqb}
 use lib.ListN.{length}
 use borrow.Author.Tests.{ltb-true, lt-ltb, eqb-true, eqb-false, eq-eqb, not-true, not-false}
 use Rattle.words.specs.Numbers.{count}
-use Rattle.words.specs.Tables.{letter, period, hmax, nohole, kmin, rmin, below}
+use Rattle.words.specs.Tables.{letter, period, hmax, nohole, hole, kmin, rmin, below}
 use Rattle.words.proofs.Cases.{less-or, true-or-false, both-true, not-both}
 use Rattle.words.proofs.Numbers.{First, first-is, first-unique, some-of, some-is, every-of, every-is, count-split, count-mono, count-either, pigeonholes}
 use Rattle.words.proofs.Periods.{Periodic, MaxPP, early-break, longest-up, longest-down, longest-unique}
@@ -125,6 +125,15 @@ module _ (w : List ℕ) where
 
   pub zero-hole : nohole w 0 ≡ false
   zero-hole = ⊎-elim (λ e. absurd (omega (arith, nohole-is 0 e))) (λ e. e) (true-or-false (nohole w 0))
+
+  -- Every place is one or the other.
+  pub hole-false : (p : ℕ) → nohole w p ≡ true → hole w p ≡ false
+  unfolding hole
+  hole-false p e = rw e refl
+
+  pub hole-true : (p : ℕ) → nohole w p ≡ false → hole w p ≡ true
+  unfolding hole
+  hole-true p e = rw e refl
 
   -- ---- rmin
 

@@ -92,6 +92,22 @@ module _ (w : List ℕ) where
       let A = ascending-at (nohole w) (length w) i g in
       rw (place-is i, List·getD-append ups downs 0 i g) record { inside = A .inside; is = A .passes; index = A .index }
 
+  -- The noholes ascend with their ranks, and that of rank below(g) is g or more.
+  pub place-ascends : (i : ℕ) → i + 1 < noholes w → place w i < place w (i + 1)
+  place-ascends i l = ⊎-elim
+      (λ (h : place w i < place w (i + 1)). h)
+      (λ (h : place w (i + 1) ≤ place w i).
+      absurd (omega (arith, below-grows (place w (i + 1)) (place w i) h, nohole-rank i (omega arith) .index, nohole-rank (i + 1) l .index)))
+      (less-or (place w i) (place w (i + 1)))
+
+  pub place-from : (g : ℕ) → below w g < noholes w → g ≤ place w (below w g)
+  place-from g l = ⊎-elim
+      (λ (h : place w (below w g) < g).
+      let N = nohole-rank (below w g) l in
+      absurd (omega (arith, below-grows (suc (place w (below w g))) g h, below-nohole (place w (below w g)) (N .is), N .index)))
+      (λ (h : g ≤ place w (below w g)). h)
+      (less-or (place w (below w g)) g)
+
   -- Rank i has the place p, a hole: m - 1 - i holes lie below it.
   pub record HoleRank (i p : ℕ) : Type 0 where
     pub inside : p < length w

@@ -11,7 +11,7 @@ use Rattle.words.specs.Tables.{letter, hmax, nohole, below, noholes, pla
 use Rattle.words.proofs.Cases.{less-or, true-or-false}
 use Rattle.words.proofs.Periods.{MaxPP}
 use Rattle.words.proofs.Noholes.{Hmax, hmax-is, nohole-of, nohole-is, kmin-least, rmin-is}
-use Rattle.words.proofs.Ranks.{below-le, below-grows, below-nohole, NoholeRank, nohole-rank, hole-rank}
+use Rattle.words.proofs.Ranks.{below-le, below-grows, below-nohole, NoholeRank, nohole-rank, place-from, hole-rank}
 
 module _ (w : List ℕ) where
   -- ---- By the kind of the rank
@@ -131,8 +131,25 @@ module _ (w : List ℕ) where
       (less-or i (length w)))
       (less-or i (noholes w))
 
-  pub next-upto : (i : ℕ) → next w i ≤ length w
-  next-upto i = ⊎-elim
-      (λ (a : i < noholes w). rw (next-nohole i a) (omega (arith, below-le w (place w i - kmin w (place w i)), nohole-rank w i a .inside)))
-      (λ (a : noholes w ≤ i). rw (next-hole i a) (omega (arith, below-le w (length w - shift w i))))
+  -- A window begins with a nohole's rank, or past all of them.
+  pub next-early : (i : ℕ) → next w i ≤ noholes w
+  unfolding noholes
+  next-early i = ⊎-elim
+      (λ (a : i < noholes w). rw (next-nohole i a) (below-grows w (place w i - kmin w (place w i)) (length w) (omega (arith, nohole-rank w i a .inside))))
+      (λ (a : noholes w ≤ i). rw (next-hole i a) (below-grows w (length w - shift w i) (length w) (omega arith)))
       (less-or i (noholes w))
+
+  pub next-upto : (i : ℕ) → next w i ≤ length w
+  next-upto i = omega (arith, next-early i, noholes-le)
+
+  -- A window that begins with a nohole compares it no further left than the place at which the window before missed; or, where that was a
+  -- hole or none, past that window.
+  pub next-past-miss : (i : ℕ) → i < noholes w → next w i < noholes w → place w i ≤ shift w i + place w (next w i)
+  next-past-miss i early l =
+      let from = place-from w (place w i - kmin w (place w i)) (rw (next-nohole i early) at l) in
+      rw (next-nohole i early, shift-nohole i early) (omega (arith, from))
+
+  pub next-past-window : (i : ℕ) → noholes w ≤ i → next w i < noholes w → length w ≤ shift w i + place w (next w i)
+  next-past-window i late l =
+      let from = place-from w (length w - shift w i) (rw (next-hole i late) at l) in
+      rw (next-hole i late) (omega (arith, from))

@@ -29,6 +29,11 @@ pub fn joined(value: u8, other: u8) -> Classes {
     classes
 }
 
+/// c has the class of b.
+pub fn c_in_b() -> Classes {
+    joined(b'c', b'b')
+}
+
 /// All values in a random order.
 pub fn shuffled(random: &mut Random) -> Classes {
     let mut values = identity();

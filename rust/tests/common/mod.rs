@@ -135,6 +135,11 @@ impl Trial {
             "{}: {answer:?}, by the rules {expected:?}",
             case()
         );
+        assert!(
+            expected.at_noholes + expected.at_holes == expected.count,
+            "{}: the columns of {expected:?} have another sum than its count",
+            case()
+        );
         let (positions, rest) = self.list.split_at(expected.written);
         assert!(
             positions == self.by_rules,

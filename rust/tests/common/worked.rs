@@ -2,13 +2,17 @@
 
 use super::classes::Classes;
 use super::{Method, Trial, UNWRITTEN};
-use poqewan::Ending;
+use poqewan::{Ending, Report};
 
 pub const NO_CAP: u64 = u64::MAX;
 /// A list that is long enough.
 pub const LONG: usize = 16;
 
-/// A pattern by its classes, with a cap and a list, in a text.
+/// A count, and its two columns: at noholes and at holes.
+pub type Counts = [u64; 3];
+
+/// A pattern by its classes, with a cap and a list, in a text. Both searches have the positions and
+/// the ending.
 pub struct Row {
     classes: fn() -> Classes,
     pattern: &'static [u8],
@@ -16,11 +20,9 @@ pub struct Row {
     cap: u64,
     list_len: usize,
     positions: &'static [u32],
-    /// Of the search in Colussi's order.
     ending: Ending,
-    count: u64,
-    /// Where the document gives it, or it is worked too.
-    kmp_count: Option<u64>,
+    colussi: Counts,
+    kmp: Counts,
 }
 
 #[allow(clippy::too_many_arguments)] // The columns of a table.
@@ -32,8 +34,8 @@ pub const fn row(
     list_len: usize,
     positions: &'static [u32],
     ending: Ending,
-    count: u64,
-    kmp_count: Option<u64>,
+    colussi: Counts,
+    kmp: Counts,
 ) -> Row {
     Row {
         classes,
@@ -43,8 +45,8 @@ pub const fn row(
         list_len,
         positions,
         ending,
-        count,
-        kmp_count,
+        colussi,
+        kmp,
     }
 }
 
@@ -52,19 +54,23 @@ impl Row {
     /// Both searches answer as the oracle does, and as the row has it.
     pub fn check(&self) {
         let [pattern, text] = [self.pattern, self.text].map(<[u8]>::escape_ascii);
-        let case = format!("{pattern} in {text}, cap {}", self.cap);
         let mut trial = Trial::with_classes(self.pattern, &(self.classes)());
-        let [_, kmp] = trial.check(self.text, self.cap, self.list_len);
+        trial.check(self.text, self.cap, self.list_len);
 
-        let mut list = vec![UNWRITTEN; self.list_len];
-        let report = Method::Colussi
-            .run(trial.pattern(), self.text, self.cap, &mut list)
-            .expect("the pattern is prepared and the text short");
-        assert_eq!(report.ending, self.ending, "{case}");
-        assert_eq!(report.count, self.count, "{case}");
-        assert_eq!(&list[..report.written], self.positions, "{case}");
-        if let Some(count) = self.kmp_count {
-            assert_eq!(kmp.count, count, "{case}");
+        for (method, counts) in Method::BOTH.into_iter().zip([self.colussi, self.kmp]) {
+            let case = format!("{method:?}, {pattern} in {text}, cap {}", self.cap);
+            let [count, at_noholes, at_holes] = counts;
+            let expected = Report {
+                ending: self.ending,
+                count,
+                at_noholes,
+                at_holes,
+                written: self.positions.len(),
+            };
+            let mut list = vec![UNWRITTEN; self.list_len];
+            let answer = method.run(trial.pattern(), self.text, self.cap, &mut list);
+            assert_eq!(answer, Ok(expected), "{case}");
+            assert_eq!(&list[..expected.written], self.positions, "{case}");
         }
     }
 }

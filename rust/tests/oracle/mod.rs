@@ -153,6 +153,8 @@ pub struct Tables {
     pub hmax: Vec<(usize, usize)>,
     /// kmin(p), for each place p; none if p is a hole.
     pub kmin: Vec<Option<usize>>,
+    /// Whether place p is a nohole, for each place p.
+    pub nohole: Vec<bool>,
     /// rmin(p), for each place p.
     pub rmin: Vec<usize>,
     /// below(p), for p from 0 to m.
@@ -178,8 +180,9 @@ impl Tables {
         let kmin: Vec<_> = (0..m)
             .map(|p| hmax.iter().find(|&&(_, h)| h == p).map(|&(k, _)| k))
             .collect();
-        let is_nohole = |&p: &usize| kmin[p].is_some();
-        let is_hole = |&p: &usize| kmin[p].is_none();
+        let nohole: Vec<_> = kmin.iter().map(Option::is_some).collect();
+        let is_nohole = |&p: &usize| nohole[p];
+        let is_hole = |&p: &usize| !nohole[p];
 
         // rmin(p) is the least period of the pattern greater than p. m is always one.
         let periods: Vec<_> = (1..=m).filter(|&k| is_period(bytes, classes, k)).collect();
@@ -221,6 +224,7 @@ impl Tables {
             classes: *classes,
             hmax,
             kmin,
+            nohole,
             rmin,
             below,
             noholes,
@@ -240,7 +244,7 @@ impl Tables {
         fill(&mut pattern.order, &self.order);
         fill(&mut pattern.shift, &self.shift);
         fill(&mut pattern.next, &self.next);
-        for p in (0..self.bytes.len()).filter(|&p| self.kmin[p].is_some()) {
+        for p in (0..self.bytes.len()).filter(|&p| self.nohole[p]) {
             pattern.marks[p / 64] |= 1 << (p % 64);
         }
         pattern
@@ -277,6 +281,28 @@ pub fn tables_if_true(value: &Pattern) -> Option<Tables> {
     (tables.pattern() == *value).then_some(tables)
 }
 
+/// Request C-16: the comparisons that a search made at noholes, and those that it made at holes.
+struct Columns {
+    at_noholes: u64,
+    at_holes: u64,
+}
+
+impl Columns {
+    const NONE: Self = Self {
+        at_noholes: 0,
+        at_holes: 0,
+    };
+
+    /// A comparison is made at place p of the pattern.
+    fn compared(&mut self, tables: &Tables, p: usize) {
+        if tables.nohole[p] {
+            self.at_noholes += 1;
+        } else {
+            self.at_holes += 1;
+        }
+    }
+}
+
 /// Document 01's search, rule by rule, with a list of `list_len` entries. The positions are given
 /// in `positions`, whatever it held before.
 pub fn search_by_rules(
@@ -290,21 +316,23 @@ pub fn search_by_rules(
     let m = tables.bytes.len();
     // Window b, rank i, known edge e, count c.
     let (mut b, mut i, mut e, mut c) = (0, 0, 0, 0);
+    let mut columns = Columns::NONE;
     while b + m <= text.len() {
         let rank = if i == m || b + tables.order[i] < e {
             // Rule 1: the pattern occurs at b, and the window is left with rank m.
             if positions.len() == list_len {
-                return report(Ending::Full(b), c, positions);
+                return report(Ending::Full(b), c, &columns, positions);
             }
             positions.push(position(b));
             m
         } else {
             // Rule 2: a comparison is due. Unequal, the window is left with rank i.
             if c == cap {
-                return report(Ending::Spent(b), c, positions);
+                return report(Ending::Spent(b), c, &columns, positions);
             }
             let p = tables.order[i];
             c += 1;
+            columns.compared(tables, p);
             if equal(&tables.classes, tables.bytes[p], text[b + p]) {
                 i += 1;
                 continue;
@@ -318,7 +346,7 @@ pub fn search_by_rules(
         b += tables.shift[rank];
         i = tables.next[rank];
     }
-    report(Ending::Done, c, positions)
+    report(Ending::Done, c, &columns, positions)
 }
 
 /// Document 01's search by Knuth, Morris and Pratt, as [`search_by_rules`].
@@ -333,20 +361,22 @@ pub fn kmp_by_rules(
     let m = tables.bytes.len();
     // Window b, matched length i, count c.
     let (mut b, mut i, mut c) = (0, 0, 0);
+    let mut columns = Columns::NONE;
     while b + m <= text.len() {
         let shift = if i == m {
             // The pattern occurs at b.
             if positions.len() == list_len {
-                return report(Ending::Full(b), c, positions);
+                return report(Ending::Full(b), c, &columns, positions);
             }
             positions.push(position(b));
             tables.rmin[0]
         } else {
             // A comparison is due.
             if c == cap {
-                return report(Ending::Spent(b), c, positions);
+                return report(Ending::Spent(b), c, &columns, positions);
             }
             c += 1;
+            columns.compared(tables, i);
             if equal(&tables.classes, tables.bytes[i], text[b + i]) {
                 i += 1;
                 continue;
@@ -357,13 +387,15 @@ pub fn kmp_by_rules(
         b += shift;
         i = i.saturating_sub(shift);
     }
-    report(Ending::Done, c, positions)
+    report(Ending::Done, c, &columns, positions)
 }
 
-fn report(ending: Ending, count: u64, positions: &[u32]) -> Report {
+fn report(ending: Ending, count: u64, columns: &Columns, positions: &[u32]) -> Report {
     Report {
         ending,
         count,
+        at_noholes: columns.at_noholes,
+        at_holes: columns.at_holes,
         written: positions.len(),
     }
 }

@@ -40,8 +40,9 @@ search-of c = colussi (c .args .bytes .now) (c .args .text .now) noCap listSize
 
 -- What was answered, and what was left in the list.
 ran : (c : tie.After-colussi)
-    → (let end = search-of (c .before .before .before .before .before .before .before .before .before .before) in
-    (c .colussi .result ≡ Ran (reportOf end)) × (c .colussi .last .1 .1 .1 .0 ≡ filled end (replicate listSize 0)))
+    → (let entry = c .before .before .before .before .before .before .before .before .before .before in
+    let end = search-of entry in
+    (c .colussi .result ≡ Ran (reportOf (entry .args .bytes .now) end)) × (c .colussi .last .1 .1 .1 .0 ≡ filled end (replicate listSize 0)))
 ran c =
     let at-prepare = c .before .before .before in
     let entry = at-prepare .before .before .before .before .before .before .before in
@@ -51,9 +52,9 @@ ran c =
 
 found-here : (c : tie.After-answer)
     → (let at-colussi = c .before .before .before in
-    Found (search-of (at-colussi .before .before .before .before .before .before .before .before .before .before))
-    (c .answer .given .0 .0) (at-colussi .colussi .last .1 .1 .1 .0))
-found-here c = let R = ran (c .before .before .before) in found _ (R .0) (replicate listSize 0) (R .1) (c .answer .given .1)
+    let entry = at-colussi .before .before .before .before .before .before .before .before .before .before in
+    Found (entry .args .bytes .now) (search-of entry) (c .answer .given .0 .0) (at-colussi .colussi .last .1 .1 .1 .0))
+found-here c = let R = ran (c .before .before .before) in found _ _ (R .0) (replicate listSize 0) (R .1) (c .answer .given .1)
 
 put-report-requires : tie.Need-put-report-requires
 put-report-requires c κs = omega (arith, found-here (c .before .before .before) .inside)
@@ -79,7 +80,7 @@ same-length-2 c = search needs
 returns-2 : tie.Need-returns-2
 returns-2 c =
     let at-answer = c .before .before .before .before .before in
-    absurd (not-refused _ (ran (at-answer .before .before .before) .0) (at-answer .answer2 .given .1))
+    absurd (not-refused _ _ (ran (at-answer .before .before .before) .0) (at-answer .answer2 .given .1))
 
 pub searched-spec : {M : Type 1} → statement M
 searched-spec =

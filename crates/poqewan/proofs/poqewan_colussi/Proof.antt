@@ -14,7 +14,8 @@ returns c =
     let C = c .carry .ensures in
     let located = S .1 .1 in
     let classed = located .1 in
-    let ceiling = classed .1 in
+    let columns = classed .1 in
+    let ceiling = columns .1 in
     let zeros = ceiling .1 in (
       C ∙ ap carried (S .0),
       (
@@ -23,7 +24,10 @@ returns c =
           promised-to-c _ a C (located .0),
           (
             promised-to-c _ a C (classed .0),
-            (promised-to-c _ a C (ceiling .0), (promised-to-c _ a C (zeros .0), λ e. let plain = zeros .1 e in (C ∙ ap carried (plain .0), plain .1))),
+            (
+              promised-to-c _ a C (columns .0),
+              (promised-to-c _ a C (ceiling .0), (promised-to-c _ a C (zeros .0), λ e. let plain = zeros .1 e in (C ∙ ap carried (plain .0), plain .1))),
+            ),
           ),
         ),
       ),

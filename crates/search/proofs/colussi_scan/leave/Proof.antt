@@ -29,14 +29,20 @@ wide16-requires-2 c κs = search needs
 
 returns : tie.Need-returns
 unfolding edgeAfter
-returns c = (omega arith, omega arith, rw (lt-ltb _ _ (c .if1 .taken), edgeAfter))
+returns c = (omega arith, omega arith, rw (lt-ltb _ _ (c .if1 .taken), edgeAfter), omega arith)
 
 add-t11 : tie.Need-add-t11
 add-t11 c = search needs
 
+add-t10 : tie.Need-add-t10
+add-t10 c = search needs
+
+sub-t16 : tie.Need-sub-t16
+sub-t16 c = search needs
+
 returns-2 : tie.Need-returns-2
 unfolding edgeAfter
-returns-2 c = (omega arith, omega arith, rw (le-ltb _ _ (c .if1 .left), edgeAfter))
+returns-2 c = (omega arith, omega arith, rw (le-ltb _ _ (c .if1 .left), edgeAfter), omega arith)
 
 pub leave-spec : {M : Type 1} → statement M
 leave-spec =
@@ -51,4 +57,6 @@ leave-spec =
     wide16-requires-2
     returns
     add-t11
+    add-t10
+    sub-t16
     returns-2)

@@ -1,5 +1,5 @@
--- `search::colussi_scan::scan` meets its contract. The loop's invariant, `Scans`: the search goes by the loop's state. The measure: the turns
--- that are left. Assumes nothing.
+-- `search::colussi_scan::scan` meets its contract. The loop's invariant, `ScansByRank`: the search goes by the loop's state, and the holes
+-- compared are those of the windows left and of this one. The measure: the turns that are left. Assumes nothing.
 use Prim.Native.Nat.{ℕ, _≤_, _<_, _-_, _+_}
 use mathlib.Core.Path.{_≡_, refl, ap}
 use mathlib.Core.Logic.{inl, ⊎-elim}
@@ -16,18 +16,18 @@ use Rattle.rules.specs.Colussi.{colussi-plan}
 use Rattle.rules.specs.Internal.Passing.{Established}
 use Rattle.rules.specs.Rules.{left}
 use Rattle.rules.proofs.Rules.{fewer, no-more}
-use Rattle.rules.proofs.Scans.{Scans, rank-upto, capped, scans-start}
+use Rattle.rules.proofs.Scans.{rank-upto, column-upto}
 use Rattle.search.proofs.LentTables.{in-window, word-length}
-use Rattle.search.proofs.ColussiScan.{shift-on, scan-done, scan-ahead, scan-known, scan-spent, scan-matched, scan-missed, scan-full, scan-listed}
+use Rattle.search.proofs.ColussiScan.{ScansByRank, by-rank-start, shift-on, done-at-once, scan-done, scan-ahead, noholes-passed, scan-known, scan-spent, scan-matched, scan-missed, scan-full, scan-listed}
 use Rattle.search.proofs.colussi_scan.scan.Statement.{statement}
 use Rattle.search.proofs.colussi_scan.scan.Tie as tie
 
 abbrev Inv-loop : tie.InvT-loop
-Inv-loop letters order shift next m d classes text cap positions₀ last first x b₀ i₀ e₀ c₀ k₀ positions b i e c k =
-    Scans (colussi-plan (take m letters)) (take m letters) (through classes text) cap positions₀ positions b i e c k
+Inv-loop letters order shift next m d classes text cap positions₀ last first x b₀ i₀ e₀ left₀ h₀ k₀ positions b i e unspent h k =
+    ScansByRank letters m d (through classes text) cap positions₀ positions b i e unspent h k
 
 abbrev μ-loop : tie.MeasureT-loop
-μ-loop letters order shift next m d classes text cap positions₀ last first x b₀ i₀ e₀ c₀ k₀ positions b i e c k = left m (length (through classes text)) b i
+μ-loop letters order shift next m d classes text cap positions₀ last first x b₀ i₀ e₀ left₀ h₀ k₀ positions b i e unspent h k = left m (length (through classes text)) b i
 
 -- ---- Ways back from a place of the code
 
@@ -78,7 +78,12 @@ inside : (c : tie.In-loop Inv-loop μ-loop)
     (loop .i ≤ args .m) × (loop .b + args .m ≤ length (text-of (entry (c .before)))) × (loop .b + args .m ≤ length (now (args .text))))
 inside c =
     let E = entry (c .before) in
-    omega (arith, rank-upto (c .before .loop .inv), word-length _ _ _ _ (E .pre .0), c .loop-test .taken, long (c .before) .if1 .left, text-length E)
+    omega (arith, rank-upto (c .before .loop .inv .scans), word-length _ _ _ _ (E .pre .0), c .loop-test .taken, long (c .before) .if1 .left, text-length E)
+
+-- Not more is left than the cap, and the holes compared are not more than a number of the code can be.
+ended-requires : (c : tie.At-loop Inv-loop μ-loop)
+    → (c .loop .left ≤ entry c .args .cap) × (c .loop .h + (c .loop .i - entry c .args .d) < 18446744073709551616)
+ended-requires c = (c .loop .inv .within, omega (arith, column-upto (c .loop .inv .scans), entry c .fits .cap))
 
 -- A comparison is due.
 is-due : (c : tie.Then2 Inv-loop μ-loop)
@@ -103,9 +108,8 @@ missed : (c : tie.After-leave Inv-loop μ-loop)
     → (let at-loop = leave-loop c in
     let args = entry at-loop .args in
     let after = c .leave .result in
-    let w = take (args .m) (now (args .letters)) in
-    Scans (colussi-plan w) w (text-of (entry at-loop)) (args .cap) (now (args .positions))
-    (at-loop .loop .positions) (after .window) (after .rank) (after .edge) (at-loop .loop .c + 1) (at-loop .loop .k))
+    ScansByRank (now (args .letters)) (args .m) (args .d) (text-of (entry at-loop)) (args .cap) (now (args .positions))
+    (at-loop .loop .positions) (after .window) (after .rank) (after .edge) (at-loop .loop .left - 1) (at-loop .loop .h + after .holes) (at-loop .loop .k))
 missed c =
     let differs = c .before in
     let more = allowed (differs .before) in
@@ -115,7 +119,7 @@ missed c =
     let E = entry at-loop in
     let L = c .leave .ensures in
     scan-missed _ _ _ _ (E .pre .0) (at-loop .loop .inv) (inside (now-due .before .before) .1) _ (is-due now-due .0) (at-place .wide82 .ensures .0)
-    (beyond at-place) (more .if3 .left) (differs .before .agree .ensures .no (differs .if4 .left)) (E .pre .1 .0) (L .0) (L .1) (L .2)
+    (beyond at-place) (more .if3 .left) (differs .before .agree .ensures .no (differs .if4 .left)) (E .pre .1 .0) (L .0) (L .1) (L .2) (L .3)
 
 missed-less : (c : tie.After-leave Inv-loop μ-loop)
     → (let at-loop = leave-loop c in
@@ -160,8 +164,8 @@ returns : tie.Need-returns Inv-loop μ-loop
 returns c =
     let short = c .before in
     let E = short .before .before .before .before .before .before .before .before in
-    rw (c .ended .ensures)
-    (scan-done _ _ _ _ (E .pre .0) (scans-start _ _ (text-of E) _ (now (E .args .positions))) (omega (arith, short .if1 .taken, text-length E)))
+    rw (c .with-holes .ensures)
+    (done-at-once _ _ _ _ (E .pre .0) (text-of E) _ (now (E .args .positions)) (omega (arith, short .if1 .taken, text-length E)))
 
 shared-slice-read-x : tie.Need-shared-slice-read-x Inv-loop μ-loop
 shared-slice-read-x c =
@@ -171,15 +175,13 @@ shared-slice-read-x c =
 
 returns-2 : tie.Need-returns-2 Inv-loop μ-loop
 returns-2 c =
-    let at-place = c .before .before in
+    let spent = c .before in
+    let at-place = spent .before in
     let now-due = at-place .before .before in
     let at-loop = due-loop now-due in
-    rw (c .ended2 .ensures)
+    rw (c .ended .ensures)
     (scan-spent _ _ _ _ (entry at-loop .pre .0) (at-loop .loop .inv) (inside (now-due .before .before) .1) _ (is-due now-due .0) (at-place .wide82 .ensures .0)
-    (beyond at-place) (c .before .if3 .taken))
-
-add-c : tie.Need-add-c Inv-loop μ-loop
-add-c c = let at-loop = place-loop (c .before) in omega (arith, capped (at-loop .loop .inv), c .if3 .left, entry at-loop .fits .cap)
+    (beyond at-place) (spent .if3 .taken))
 
 agree-requires : tie.Need-agree-requires Inv-loop μ-loop
 agree-requires c κs = let at-place = c .before .before in (entry (place-loop at-place) .pre .1 .1 .0, place-in-text at-place)
@@ -199,22 +201,20 @@ leave-requires c κs =
     let E = entry (due-loop now-due) in
     omega (arith, is-due now-due .0, E .pre .1 .0 .length-shifts, E .pre .1 .0 .length-nexts, inside (now-due .before .before), E .pre .1 .1)
 
-add-if6 : tie.Need-add-if6 Inv-loop μ-loop
-add-if6 c =
-    let at-loop = leave-loop (c .before) in
-    omega (arith, lead c .2, first at-loop .wide8 .ensures .1, entry at-loop .pre .1 .1)
+add-h : tie.Need-add-h Inv-loop μ-loop
+add-h c =
+    let at-loop = leave-loop c in
+    omega (arith, column-upto (missed c .scans), entry at-loop .fits .cap)
 
 ahead-requires : tie.Need-ahead-requires Inv-loop μ-loop
 ahead-requires c κs =
-    let at-lead = c .before in
-    let at-leave = at-lead .before in
-    let at-loop = leave-loop at-leave in
+    let at-loop = leave-loop (c .before) in
     let lent = entry at-loop .pre .1 .1 in
-    (lent .0, omega (arith, lead at-lead .2, first-inside at-loop, long at-loop .if1 .left, lent .1, capped (missed at-leave)))
+    (lent .0, omega (arith, lead c .2, first-inside at-loop, long at-loop .if1 .left, lent .1))
 
 loop-less-2 : tie.Need-loop-less-2 Inv-loop μ-loop
 loop-less-2 c =
-    let at-lead = c .before .before in
+    let at-lead = c .before in
     let at-leave = at-lead .before in
     let E = entry (leave-loop at-leave) in
     let after = at-leave .leave .result in
@@ -227,48 +227,56 @@ loop-less-2 c =
 
 loop-again-2 : tie.Need-loop-again-2 Inv-loop μ-loop
 loop-again-2 c =
-    let at-lead = c .before .before in
+    let at-lead = c .before in
     let at-leave = at-lead .before in
     let at-loop = leave-loop at-leave in
     let L = lead at-lead in
     scan-ahead _ _ _ _ (entry at-loop .pre .0) (missed at-leave) (c .ahead .ensures) (omega (arith, long at-loop .if1 .left, text-length (entry at-loop)))
-    (L .0) (L .1) (first at-loop .wide8 .ensures .0) refl (c .before .if6 .taken)
+    (L .0) (L .1) (first at-loop .wide8 .ensures .0) refl
 
 returns-3 : tie.Need-returns-3 Inv-loop μ-loop
 returns-3 c =
-    let none-due = c .before .before in
+    let full = c .before in
+    let none-due = full .before in
     let in-loop = none-due .before .before in
-    rw (c .ended3 .ensures)
-    (scan-full _ _ _ _ (entry (in-loop .before) .pre .0) (in-loop .before .loop .inv) (inside in-loop .1) (occurs none-due) (c .before .if7 .taken))
+    rw (c .ended2 .ensures)
+    (scan-full _ _ _ _ (entry (in-loop .before) .pre .0) (in-loop .before .loop .inv) (inside in-loop .1) (occurs none-due) (full .if6 .taken))
 
 -- A window of the text lies below 2^32.
-below-2^32 : (c : tie.Else7 Inv-loop μ-loop)
+below-2^32 : (c : tie.Else6 Inv-loop μ-loop)
     → (let in-loop = c .before .before .before in in-loop .before .loop .b + entry (in-loop .before) .args .m < 4294967296)
 below-2^32 c = let in-loop = c .before .before .before in omega (arith, inside in-loop, entry (in-loop .before) .pre .1 .1)
+
+-- Every nohole has been compared where the pattern occurs.
+passed : (c : tie.Else6 Inv-loop μ-loop) → (let at-loop = c .before .before .before .before in entry at-loop .args .d ≤ at-loop .loop .i)
+passed c =
+    let in-loop = c .before .before .before in
+    noholes-passed _ _ _ _ (entry (in-loop .before) .pre .0) (in-loop .before .loop .inv) (inside in-loop .1) (occurs (c .before))
 
 add-b : tie.Need-add-b Inv-loop μ-loop
 add-b c = omega (arith, below-2^32 (c .before .before), c .wide16 .ensures .1)
 
-loop-less-5 : tie.Need-loop-less-5 Inv-loop μ-loop
-loop-less-5 c =
+loop-less-4 : tie.Need-loop-less-4 Inv-loop μ-loop
+loop-less-4 c =
     let in-loop = c .before .before .before .before .before .before .before in
     let E = entry (in-loop .before) in
     rw (c .before .before .wide16 .ensures .0) (fewer _ _ _ _ _ _ (inside in-loop .1) (shift-on _ _ _ _ (E .pre .0) _ _ (E .pre .1 .0) (E .args .m) (omega arith)))
 
-loop-again-5 : tie.Need-loop-again-5 Inv-loop μ-loop
-loop-again-5 c =
+loop-again-4 : tie.Need-loop-again-4 Inv-loop μ-loop
+loop-again-4 c =
     let room = c .before .before .before .before in
     let in-loop = room .before .before .before in
     let at-loop = in-loop .before in
     let E = entry at-loop in
-    scan-listed _ _ _ _ (E .pre .0) (at-loop .loop .inv) (inside in-loop .1) (occurs (room .before)) (room .if7 .left)
+    scan-listed _ _ _ _ (E .pre .0) (at-loop .loop .inv) (inside in-loop .1) (occurs (room .before)) (room .if6 .left)
     (E .pre .1 .0) (omega arith) (ap (λ s. at-loop .loop .b + s) (c .before .before .wide16 .ensures .0)) (c .wide162 .ensures .0)
+    refl
 
 returns-4 : tie.Need-returns-4 Inv-loop μ-loop
 returns-4 c =
     let past = c .before in
     let at-loop = past .before in
-    rw (c .ended4 .ensures)
+    rw (c .ended3 .ensures)
     (scan-done _ _ _ _ (entry at-loop .pre .0) (at-loop .loop .inv) (omega (arith, past .loop-test .left, long at-loop .if1 .left, text-length (entry at-loop))))
 
 pub scan-spec : {M : Type 1} → statement M
@@ -283,14 +291,14 @@ scan-spec =
     (λ c. search needs)
     (λ c κs. search needs)
     shared-slice-read-x
-    (λ c. scans-start _ _ _ _ _)
+    (λ c. by-rank-start _ _ _ _ _ _)
     (λ c κs. omega (arith, inside c, entry (c .before) .pre .0 .length-order, entry (c .before) .pre .1 .1))
     (λ c. omega (arith, is-due (c .before), entry (due-loop (c .before)) .pre .0 .length-order))
     (λ c κs. search needs)
-    (λ c κs. search needs)
+    (λ c κs. ended-requires (place-loop (c .before)))
     (λ c. search needs)
     returns-2
-    add-c
+    (λ c. search needs)
     (λ c. let at-place = c .before .before in omega (arith, place-inside at-place, entry (place-loop at-place) .pre .0 .length-letters))
     (λ c. let at-place = c .before .before in omega (arith, place-in-text at-place, entry (place-loop at-place) .pre .1 .1))
     agree-requires
@@ -298,21 +306,21 @@ scan-spec =
     (λ c. omega (arith, is-due (allowed (c .before) .before .before .before) .0))
     loop-again
     leave-requires
-    add-if6
+    add-h
     ahead-requires
     loop-less-2
     loop-again-2
-    (λ c. missed-less (c .before .before))
-    (λ c. missed (c .before .before))
     (λ c. missed-less (c .before))
     (λ c. missed (c .before))
-    (λ c κs. search needs)
+    (λ c κs. ended-requires (c .before .before .before .before))
     (λ c. search needs)
     returns-3
     (λ c. omega (arith, below-2^32 c))
     (λ c. search needs)
     (λ c. search needs)
     (λ c. search needs)
+    (λ c. passed c)
+    (λ c. omega (arith, ended-requires (c .before .before .before .before)))
     (λ c. omega (arith, below-2^32 c))
     (λ c. search needs)
     (λ c. search needs)
@@ -321,8 +329,8 @@ scan-spec =
     (λ c. search needs)
     (λ c. search needs)
     (λ c κs. search needs)
-    loop-less-5
-    loop-again-5
-    (λ c κs. search needs)
+    loop-less-4
+    loop-again-4
+    (λ c κs. ended-requires (c .before))
     (λ c. search needs)
     returns-4)

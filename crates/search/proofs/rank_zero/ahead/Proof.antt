@@ -11,7 +11,7 @@ returns-2 : tie.Need-returns-2
 returns-2 c =
     let more = c .before .before in
     let entry = more .before .before .before in
-    ahead-at-once _ _ _ _ _ (entry .args .b) (entry .args .c) (omega (arith, entry .pre)) (omega (arith, entry .pre, more .if1 .left))
+    ahead-at-once _ _ _ _ (entry .args .b) (entry .args .left) (omega (arith, entry .pre)) (omega (arith, more .if1 .left))
     (sym (c .before .agree .ensures .yes (c .if2 .taken)))
 
 returns-3 : tie.Need-returns-3
@@ -21,8 +21,8 @@ returns-3 c =
     let missed = c .before .before .before in
     let more = missed .before .before in
     let entry = more .before .before .before in
-    ahead-matched _ _ _ _ _ (entry .args .b) (entry .args .c) (least .result) (skip .result) _ (λ e. missed .before .agree .ensures .no (missed .if2 .left) (sym e))
-    (omega (arith, least .ensures, entry .pre)) (omega (arith, least .ensures, entry .pre, more .if1 .left)) (skip .ensures) (omega (arith, skip .ensures)) (c .if3 .taken)
+    ahead-matched _ _ _ _ (entry .args .b) (entry .args .left) (least .result) (skip .result) _ (λ e. missed .before .agree .ensures .no (missed .if2 .left) (sym e))
+    (omega (arith, least .ensures, entry .pre)) (omega (arith, least .ensures, more .if1 .left)) (skip .ensures) (omega (arith, skip .ensures)) (c .if3 .taken)
 
 returns-4 : tie.Need-returns-4
 returns-4 c =
@@ -31,8 +31,8 @@ returns-4 c =
     let missed = c .before .before .before in
     let more = missed .before .before in
     let entry = more .before .before .before in
-    ahead-missed _ _ _ _ _ (entry .args .b) (entry .args .c) (least .result) (skip .result) _ (λ e. missed .before .agree .ensures .no (missed .if2 .left) (sym e))
-    (omega (arith, least .ensures, entry .pre)) (omega (arith, least .ensures, entry .pre, more .if1 .left)) (skip .ensures) (omega (arith, skip .ensures)) (omega (arith, c .if3 .left))
+    ahead-missed _ _ _ _ (entry .args .b) (entry .args .left) (least .result) (skip .result) _ (λ e. missed .before .agree .ensures .no (missed .if2 .left) (sym e))
+    (omega (arith, least .ensures, entry .pre)) (omega (arith, least .ensures, more .if1 .left)) (skip .ensures) (omega (arith, skip .ensures)) (omega (arith, c .if3 .left))
 
 pub ahead-spec : {M : Type 1} → statement M
 ahead-spec =
@@ -43,7 +43,6 @@ ahead-spec =
     (λ c κs. search needs)
     (λ c. search needs)
     returns-2
-    (λ c. search needs)
     (λ c. search needs)
     (λ c. search needs)
     (λ c κs. search needs)

@@ -1,0 +1,22 @@
+/* The ratios of both searches in texts, by the fastest tenth, and whether they are what is asked. */
+#ifndef VERDICTS_H
+#define VERDICTS_H
+
+#include "rows.h"
+
+double ratio_of(const struct row *row, int search);
+
+/* Of the text rows of some kinds, one after the other, but for those left out. */
+struct range {
+    const struct row *least, *greatest;
+    size_t rows, missed;
+};
+
+struct range range_of(size_t kind, size_t count, int search, double target);
+
+const char *word(bool holds);
+
+/* Prints whether all of these rows reach the target, and the least of them. The other side goes by that name. */
+void judge_ratio(const char *other, const char *claim, size_t kind, size_t count, int search, double target);
+
+#endif
