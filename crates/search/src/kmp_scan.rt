@@ -6,7 +6,6 @@ use super::entries::wide8;
 use super::entries::wide16;
 use super::rank_zero::ahead;
 use columns::with_noholes;
-use pattern::RANKS;
 use rules::Ending;
 use rules::Report;
 ghost use mathlib.Core.Path.{_≡_};
@@ -15,15 +14,10 @@ ghost use lib.ListN.{length, getD, take};
 ghost use Rattle.classes.specs.Classes.{classCount, through};
 ghost use Rattle.columns.specs.Ended.{endedWith};
 ghost use Rattle.intake.specs.Sizes.{longestPattern};
+ghost use Rattle.pattern.specs.Sizes.{ranks};
 ghost use Rattle.rules.specs.Kmp.{kmp};
 ghost use Rattle.rules.specs.Report.{Reported};
 ghost use Rattle.search.specs.Internal.KmpScan.{StandsAt, KmpTables, TablesOf};
-
-// Tables by place, m included: the shift at each matched length, and below, the number of noholes less than it.
-pub struct ByPlace {
-    pub shifts: [u16; RANKS],
-    pub belows: [u16; RANKS],
-}
 
 // Whether place p is the nohole of rank j: whether rank j is a nohole's, and p its place.
 fn stands(order: &[u8], d: usize, j: usize, p: usize) -> bool
@@ -33,13 +27,20 @@ fn stands(order: &[u8], d: usize, j: usize, p: usize) -> bool
     if j < d { wide8(order[j]) == p } else { false }
 }
 
-// From the tables by rank: those of the noholes stand there in ascending order, before those of the holes.
-pub fn by_place<'a>(order: &'a [u8], shift: &'a [u16], m: usize, d: usize) -> ByPlace
+// Tables by place, m included: the shift at each matched length, and below, the number of noholes less than it. They come from the tables by
+// rank, where the noholes stand in ascending order, before the holes.
+pub fn fill_by_place<'a>(
+    order: &'a [u8],
+    shift: &'a [u16],
+    m: usize,
+    d: usize,
+    shifts: &mut [u16],
+    belows: &mut [u16],
+)
     requires { ⌜ (d ≤ m) × (m ≤ longestPattern) × (m ≤ length (now order)) × (m < length (now shift)) ⌝ }
-    ensures { λ r. ⌜ TablesOf (now (order .entry)) (now (shift .entry)) m d (r .shifts) (r .belows) ⌝ }
+    requires { ⌜ (length (now shifts) ≡ ranks) × (length (now belows) ≡ ranks) ⌝ }
+    ensures { λ r. ⌜ TablesOf (now (order .entry)) (now (shift .entry)) m d (now (shifts .exit)) (now (belows .exit)) ⌝ }
 {
-    let mut shifts = [0u16; RANKS];
-    let mut belows = [0u16; RANKS];
     let mut j: usize = 0;
     let mut p: usize = 0;
     while p < m {
@@ -55,7 +56,6 @@ pub fn by_place<'a>(order: &'a [u8], shift: &'a [u16], m: usize, d: usize) -> By
     }
     belows[m] = j as u16;
     shifts[m] = shift[m];
-    ByPlace { shifts, belows }
 }
 
 // The report of a scan that ends with i letters matched: q more comparisons were made at noholes than there are noholes among these i.
