@@ -51,7 +51,23 @@ static bool searches_agree(search_function *a, search_function *b, bool columns,
     a(subject->prepared[OURS], subject, UINT64_MAX, lists.one, subject->n, &whole);
     return agree(a, b, columns, subject, UINT64_MAX, subject->n, lists)
         && agree(a, b, columns, subject, whole.count / 2, subject->n, lists)
-        && agree(a, b, columns, subject, UINT64_MAX, whole.written / 2, lists);
+        && agree(a, b, columns, subject, UINT64_MAX, whole.written / 2, lists)
+        && agree(a, b, columns, subject, UINT64_MAX, 0, lists);
+}
+
+/* By its own search in Colussi's order, with an empty list and with a whole one, in which the versions agree. */
+static bool finds_first(const struct version *version, enum side side, const struct subject *subject, uint32_t *list)
+{
+    struct first first;
+    struct report empty, whole;
+    if (version->first == NULL)
+        return true;
+    version->first(subject->prepared[side], subject, &first);
+    version->colussi(subject->prepared[side], subject, UINT64_MAX, NULL, 0, &empty);
+    version->colussi(subject->prepared[side], subject, UINT64_MAX, list, subject->n, &whole);
+    return first.refusal == empty.refusal && first.position == empty.window && first.count == empty.count
+        && first.found == (empty.ending == POQEWAN_FULL) && first.found == (whole.written > 0)
+        && (first.found == 0 || first.position == list[0]);
 }
 
 static bool same_tables(const struct tables *a, const struct tables *b)
@@ -82,5 +98,6 @@ bool versions_agree(const struct version *a, const struct version *b, const stru
     const bool columns = a->has_columns && b->has_columns;
     return searches_agree(a->colussi, b->colussi, columns, subject, lists)
         && searches_agree(a->kmp, b->kmp, columns, subject, lists)
+        && finds_first(a, OURS, subject, lists.one) && finds_first(b, OTHER, subject, lists.other)
         && (b->prepare == NULL || (prepare_alike(a, b, subject) && a->charge(subject->n) == b->charge(subject->n)));
 }

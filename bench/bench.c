@@ -1,13 +1,14 @@
 /*
- * Measures the library against plain C by the same rules and prints docs/performance-rows.md: the ratios to the C; the
- * throughput, with the counts; the cost of preparation and of the check of a pattern; the time per byte as the text grows; the
- * ratios by kind; and whether each target holds.
+ * Measures the library against plain C by the same rules and prints docs/performance-rows.md: the ratios to the C; the search for
+ * the first occurrence, beside the library's own search with an empty list; the throughput, with the counts; the cost of
+ * preparation and of the check of a pattern; the time per byte as the text grows; the ratios by kind; and whether each target
+ * holds.
  *
  * It exits with 1 if two searches differ in an answer, and then measures nothing. A missed target is printed and no more: times
  * depend on the machine.
  */
+#include "first.h"
 #include "uncounted.h"
-#include "verdicts.h"
 
 #include <inttypes.h>
 #include <math.h>
@@ -118,7 +119,7 @@ static void costs(void)
          "In nanoseconds a call, by the tenth. Preparation comes first; then the search of an empty text, which is its check.\n\n"
          "| pattern             | m = 1 |     8 |    16 |    64 |   256 | check: 1 |     8 |    16 |    64 |   256 |\n"
          "|---------------------|------:|------:|------:|------:|------:|---------:|------:|------:|------:|------:|");
-    for (const struct row *of = rows + TEXTS; of < rows + ROWS; of += COUNT_OF(lengths_of_patterns)) {
+    for (const struct row *of = rows + TEXTS; of < rows + TEXTS + PATTERNS; of += COUNT_OF(lengths_of_patterns)) {
         printf("| %-19s |", name_of(of));
         for (size_t l = 0; l < COUNT_OF(lengths_of_patterns); l++)
             printf(" %5.0f |", cost_of(of + l, PREPARATION) * 1e9);
@@ -196,7 +197,7 @@ static void judge_growth(const char *claim, double target)
 static void judge_check(const char *claim, size_t m, double target)
 {
     const struct row *worst = NULL;
-    for (const struct row *row = rows + TEXTS; row < rows + ROWS; row++)
+    for (const struct row *row = rows + TEXTS; row < rows + TEXTS + PATTERNS; row++)
         if (row->input.m == m && (worst == NULL || cost_of(row, CHECK) > cost_of(worst, CHECK)))
             worst = row;
     printf("- %s: %s; most %.0f ns (%s)\n", word(cost_of(worst, CHECK) < target), claim, cost_of(worst, CHECK) * 1e9,
@@ -215,6 +216,7 @@ static void verdicts(void)
                 LEAST_RATIO);
     judge_ratio("C", "through 16 classes, KMP at 0.8 of the C or better", PLAIN_KINDS, with_classes, KMP,
                 LEAST_RATIO_OF_KMP_BY_CLASSES);
+    judge_first();
     judge_growth("time per byte from 64 KiB to 16 MiB within 15 %", GREATEST_SPREAD);
     judge_check("search of an empty text under 4 microseconds at m = 256", 256, LONGEST_CHECK_OF_256);
     judge_check("search of an empty text under 1 microsecond at m = 8", 8, LONGEST_CHECK_OF_8);
@@ -224,6 +226,7 @@ int main(void)
 {
     setvbuf(stdout, NULL, _IOLBF, 0);
     set_rows();
+    set_first_rows();
     add_trials();
     if (!agree_on_rows(all_agree))
         return 1;
@@ -237,6 +240,7 @@ int main(void)
          "In the rows with 16 classes, bytes are equal if their classes are; in the others each byte has a class to itself.\n");
     print_head_of_ratios("C", "ours");
     print_text_ratios();
+    print_first();
     throughput();
     costs();
     growths();

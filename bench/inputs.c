@@ -275,6 +275,16 @@ void make_input(const struct kind *kind, uint8_t classes[POQEWAN_CLASSES], uint8
         exchange_in_classes(classes, text, n);
 }
 
+void break_occurrences(uint8_t *text, const uint32_t *positions, size_t count, size_t m)
+{
+    size_t free = 0; /* from where on nothing is broken yet */
+    for (size_t i = 0; i < count; i++)
+        if (positions[i] >= free) {
+            free = positions[i] + below(m);
+            text[free++] = 0;
+        }
+}
+
 void make_in_turn(const struct family *family, uint8_t bytes[IN_TURN][POQEWAN_LONGEST_PATTERN], size_t m)
 {
     seed(m);

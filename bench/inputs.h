@@ -65,6 +65,10 @@ extern const size_t lengths_of_patterns[5];
 void make_input(const struct kind *kind, uint8_t classes[POQEWAN_CLASSES], uint8_t *bytes, size_t m, uint8_t *text, size_t n,
                 uint64_t number);
 
+/* Puts a byte 0 at a random place of each occurrence, given by ascending positions, so that none is left: no pattern holds a 0, and
+   nothing else is equal to it. What comes near to an occurrence stays. */
+void break_occurrences(uint8_t *text, const uint32_t *positions, size_t count, size_t m);
+
 /* A cost is the mean over many patterns in turn, all different if the family is random: one pattern, or a few, the branch
    predictor would learn. */
 #define IN_TURN 256

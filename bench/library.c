@@ -1,6 +1,7 @@
 /* The library's functions in the form in which they are measured. It is compiled with the header of each build: those from before
-   C-19 know no classes, and those from before C-16 report no columns. C can't ask whether a struct has a field, so `run` looks into
-   the header and sets HAS_COLUMNS to 1 or 0. */
+   C-19 know no classes, those from before C-16 report no columns, and those from before C-12 have no search for the first
+   occurrence. C can't ask whether a struct has a field, or whether there is a function, so `run` looks into the header and sets
+   HAS_COLUMNS and HAS_FIRST to 1 or 0. */
 #include "subject.h"
 
 #include <poqewan.h>
@@ -44,6 +45,17 @@ static void kmp(const void *prepared, const struct subject *subject, uint64_t ca
     give(report, plain(&answer));
 }
 
+#if HAS_FIRST
+static void first(const void *prepared, const struct subject *subject, struct first *first)
+{
+    const poqewan_first answer = poqewan_find_first(*(const poqewan_pattern *)prepared, subject->text, subject->n);
+    if (first != NULL)
+        *first = (struct first){answer.refusal, answer.found, answer.position, answer.count};
+}
+#else
+#define first NULL
+#endif
+
 static uint32_t prepare(const struct subject *subject, uint16_t *scratch, size_t scratch_len, void *prepared)
 {
     const poqewan_preparation preparation =
@@ -77,5 +89,5 @@ static void copy_tables(const void *prepared, struct tables *tables)
     memcpy(tables->marks, pattern->marks, sizeof tables->marks);
 }
 
-const struct version version = {colussi, kmp, sizeof(poqewan_pattern), HAS_CLASSES, HAS_COLUMNS, prepare, copy_tables,
+const struct version version = {colussi, kmp, first, sizeof(poqewan_pattern), HAS_CLASSES, HAS_COLUMNS, prepare, copy_tables,
                                 poqewan_charge};

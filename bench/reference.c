@@ -67,6 +67,32 @@ static struct report search_colussi(const struct tables *pattern, const uint8_t 
     return report_of(POQEWAN_DONE, 0, c, at_noholes, written);
 }
 
+/* The same up to the first occurrence, without cap, list and columns. */
+static struct first find_first(const struct tables *pattern, const uint8_t *text, size_t n)
+{
+    const size_t m = pattern->len, d = pattern->noholes;
+    size_t b = 0, i = 0, e = 0;
+    uint64_t c = 0;
+    uint8_t letters[LONGEST_PATTERN];
+    letters_by_place(pattern, letters);
+
+    while (b + m <= n) {
+        if (i == m || b + pattern->order[i] < e)
+            return (struct first){.found = 1, .position = b, .count = c};
+        c++;
+        size_t place = pattern->order[i];
+        if (letters[place] == pattern->classes[text[b + place]]) {
+            i++;
+            continue;
+        }
+        if (i >= d)
+            e = b + m;
+        b += pattern->shift[i];
+        i = pattern->next[i];
+    }
+    return (struct first){.count = c};
+}
+
 /* The shift at each matched length: kmin at a nohole, which the pattern has by rank; p + 1 at a hole p; rmin(0) at m. */
 static void shifts_by_length(const struct tables *pattern, uint16_t shifts[LONGEST_PATTERN + 1])
 {
@@ -123,5 +149,12 @@ static void kmp(const void *prepared, const struct subject *subject, uint64_t ca
     give(report, search_kmp(prepared, subject->text, subject->n, cap, positions, room));
 }
 
+static void first(const void *prepared, const struct subject *subject, struct first *first)
+{
+    const struct first answer = find_first(prepared, subject->text, subject->n);
+    if (first != NULL)
+        *first = answer;
+}
+
 const struct version version = {
-    .colussi = colussi, .kmp = kmp, .size = sizeof(struct tables), .has_classes = true, .has_columns = true};
+    .colussi = colussi, .kmp = kmp, .first = first, .size = sizeof(struct tables), .has_classes = true, .has_columns = true};

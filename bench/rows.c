@@ -12,6 +12,7 @@ const struct version *const versions[SIDES][COPIES] = {COPIES_OF(ours), COPIES_O
 /* Inputs. */
 
 struct subject subjects[IN_TURN];
+size_t subjects_made;
 struct lists lists;
 static uint8_t *stores[SIDES]; /* with a prepared pattern for each subject */
 
@@ -26,9 +27,24 @@ static void *touched(size_t bytes)
     return memset(memory, 1, bytes);
 }
 
-static size_t subjects_of(const struct input *input)
+static size_t length_of_text(const struct input *input)
 {
-    return input->kind != NULL ? 1 : IN_TURN;
+    if (input->kind != NULL)
+        return input->size->n;
+    return input->first ? input->m : 0;
+}
+
+static bool without_occurrence(const struct input *input)
+{
+    return input->kind != NULL && input->first;
+}
+
+/* What a search of ours reports of the text of the first subject, with the positions in the first list. */
+static struct report report_by(search_function *search)
+{
+    struct report report;
+    search(subjects[0].prepared[OURS], &subjects[0], UINT64_MAX, lists.one, subjects[0].n, &report);
+    return report;
 }
 
 /* A side that prepares nothing itself is given the tables of ours. */
@@ -57,26 +73,28 @@ void make(const struct input *input)
         for (enum side side = 0; side < SIDES; side++)
             stores[side] = touched(IN_TURN * versions[side][0]->size);
     }
+    subjects_made = input->kind != NULL ? 1 : IN_TURN;
     if (input->kind != NULL) {
         make_input(input->kind, classes, bytes[0], input->m, text, input->size->n, input->number);
     } else {
         identity(classes);
         make_in_turn(input->family, bytes, input->m);
     }
-    for (size_t i = 0; i < subjects_of(input); i++) {
-        subjects[i] = (struct subject){bytes[i], input->m, classes, text, input->kind != NULL ? input->size->n : 0, {NULL}};
+    for (size_t i = 0; i < subjects_made; i++) {
+        const uint8_t *in = input->kind != NULL ? text : bytes[i];
+        subjects[i] = (struct subject){bytes[i], input->m, classes, in, length_of_text(input), {NULL}};
         for (enum side side = 0; side < SIDES; side++) {
             subjects[i].prepared[side] = stores[side] + i * versions[side][0]->size;
             prepare(&subjects[i], side);
         }
     }
+    if (without_occurrence(input)) /* by KMP, which is not measured on it: the branch predictor knows what has just run */
+        break_occurrences(text, lists.one, report_by(versions[OURS][0]->kmp).written, input->m);
 }
 
 uint64_t count_by(search_function *search)
 {
-    struct report report;
-    search(subjects[0].prepared[OURS], &subjects[0], UINT64_MAX, lists.one, subjects[0].n, &report);
-    return report.count;
+    return report_by(search).count;
 }
 
 /* The works of both sides. */
@@ -105,33 +123,20 @@ static void run_check(int side, int copy)
         versions[side][copy]->colussi(subjects[i].prepared[side], &subjects[i], 0, NULL, 0, NULL);
 }
 
-/* These read what a side has prepared, the first pattern or all, before its run: the other side has its own, and the cache may be
-   too small for both. */
-
-static void read_store(int side, size_t bytes)
+void read_prepared(int side)
 {
     const volatile uint8_t *store = stores[side];
-    for (size_t at = 0; at < bytes; at += 64)
+    for (size_t at = 0; at < subjects_made * versions[side][0]->size; at += 64)
         (void)store[at];
 }
 
-static void read_first(int side)
-{
-    read_store(side, versions[side][0]->size);
-}
-
-static void read_all(int side)
-{
-    read_store(side, IN_TURN * versions[side][0]->size);
-}
-
-static const struct work colussi = {"Colussi", run_colussi, read_first}, kmp = {"KMP", run_kmp, read_first};
-static const struct work preparation = {"preparation", run_preparation, NULL}, check = {"check", run_check, read_all};
+static const struct work colussi = {"Colussi", run_colussi, read_prepared}, kmp = {"KMP", run_kmp, read_prepared};
+static const struct work preparation = {"preparation", run_preparation, NULL}, check = {"check", run_check, read_prepared};
 
 /* The rows. */
 
 struct row rows[ROWS];
-struct row *const longest_texts = rows + TEXTS - COUNT_OF(kinds);
+struct row *const longest_texts = rows + TEXTS - COUNT_OF(kinds), *const first_rows = rows + TEXTS + PATTERNS;
 
 void add_trial(struct row *row, const struct work *work, int variants, struct share share)
 {
@@ -185,6 +190,11 @@ const char *size_name_of(const struct row *row)
     return row->input.kind != NULL ? row->input.size->name : "";
 }
 
+double nanoseconds_of(const struct row *row, double seconds)
+{
+    return seconds * 1e9 / (row->input.kind != NULL ? (double)row->input.size->n : IN_TURN);
+}
+
 /* The check that comes before. */
 
 bool sides_agree(const struct subject *subject)
@@ -195,7 +205,9 @@ bool sides_agree(const struct subject *subject)
 static bool agree_on_row(const struct row *row, bool (*agree)(const struct subject *subject))
 {
     make(&row->input);
-    for (size_t i = 0; i < subjects_of(&row->input); i++)
+    if (without_occurrence(&row->input) && report_by(versions[OURS][0]->colussi).written > 0)
+        return false;
+    for (size_t i = 0; i < subjects_made; i++)
         if (!agree(&subjects[i]))
             return false;
     return true;
@@ -206,8 +218,8 @@ bool agree_on_rows(bool (*agree)(const struct subject *subject))
     bool agreed = true;
     for (const struct row *row = rows; row < rows + ROWS; row++)
         if (row->trials > 0 && !agree_on_row(row, agree)) {
-            printf("DIFFERS: %s, %s, m = %zu\n", name_of(row), row->input.kind != NULL ? size_name_of(row) : "no text",
-                   row->input.m);
+            printf("DIFFERS: %s, %s, m = %zu%s\n", name_of(row), row->input.kind != NULL ? size_name_of(row) : "no text",
+                   row->input.m, row->input.first ? ", for the first occurrence" : "");
             agreed = false;
         }
     return agreed;
@@ -246,13 +258,12 @@ void print_head_of_ratios(const char *other, const char *ours)
            other, ours);
 }
 
-static void print_row(const struct row *row, const struct trial *trial)
+void print_row(const struct row *row, const struct trial *trial)
 {
     const double *ratios = trial->times[OTHER].ratios;
-    const double nanoseconds = 1e9 / (row->input.kind != NULL ? (double)row->input.size->n : IN_TURN);
-    printf("| %-11s | %-21s | %6s | %3zu | %8.3f | %8.3f | %5.3f | %5.3f | %5.3f |\n", trial->work->name, name_of(row),
-           size_name_of(row), row->input.m, trial->times[OTHER].least * nanoseconds, trial->times[OURS].least * nanoseconds,
-           ratios[LEAST], ratios[TENTH], ratios[PAIRS]);
+    printf("| %-11s | %-21s | %6s | %3zu | %8.3f | %8.3f | %5.3f | %5.3f | %5.3f |", trial->work->name, name_of(row),
+           size_name_of(row), row->input.m, nanoseconds_of(row, trial->times[OTHER].least),
+           nanoseconds_of(row, trial->times[OURS].least), ratios[LEAST], ratios[TENTH], ratios[PAIRS]);
 }
 
 void print_ratios(const char *mean, const struct row *from, size_t count)
@@ -261,6 +272,7 @@ void print_ratios(const char *mean, const struct row *from, size_t count)
         double means[RATIOS] = {1, 1, 1};
         for (const struct row *row = from; row < from + count; row++) {
             print_row(row, &row->trial[t]);
+            putchar('\n');
             for (enum ratio ratio = 0; ratio < RATIOS; ratio++)
                 into_mean(&means[ratio], row->trial[t].times[OTHER].ratios[ratio], count);
         }

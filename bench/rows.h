@@ -8,19 +8,22 @@
 
 extern const struct version *const versions[SIDES][COPIES];
 
-/* What is searched: a pattern in a text; or many patterns in turn, and no text. */
+/* What is searched: a pattern in a text; or many patterns in turn, and no text. For the first occurrence: a pattern in a text
+   without any; or many patterns in turn, each in a text that is the pattern itself. */
 struct input {
     const struct kind *kind; /* with the size of the text; or none, and then */
     const struct size *size;
     const struct family *family;
     size_t m;
-    uint64_t number; /* that the generator starts with, if there is a text */
+    uint64_t number; /* that the generator starts with, if there is a kind */
+    bool first;      /* whether it is for the first occurrence */
 };
 
 /* Makes an input, and lets both sides prepare it. Its patterns, or its only one, are then in `subjects`, and the lists have an
    entry for each byte. */
 void make(const struct input *input);
 extern struct subject subjects[IN_TURN];
+extern size_t subjects_made;
 extern struct lists lists;
 
 /* What a search of ours counts in the text of the first subject. */
@@ -36,13 +39,17 @@ struct row {
     struct trial trial[MOST_TRIALS];
 };
 
-/* The rows: short texts; longer ones, each with one length of pattern; and patterns. */
+/* The rows: short texts; longer ones, each with one length of pattern; patterns; and those for the first occurrence, which are left
+   out unless a program sets them. */
 #define LENGTH_IN_LONG_TEXTS 16
 #define SHORT_TEXTS (COUNT_OF(kinds) * COUNT_OF(lengths))
 #define TEXTS (SHORT_TEXTS + COUNT_OF(kinds) * (COUNT_OF(sizes) - 1))
 #define PATTERNS (COUNT_OF(families) * COUNT_OF(lengths_of_patterns))
-#define ROWS (TEXTS + PATTERNS)
+#define SCANS (SHORT_TEXTS + COUNT_OF(kinds)) /* of the short texts, and of the shortest of the longer ones */
+#define FIRSTS (SCANS + PATTERNS)
+#define ROWS (TEXTS + PATTERNS + FIRSTS)
 extern struct row rows[ROWS];
+extern struct row *const first_rows;
 extern struct row *const longest_texts; /* one of each kind */
 
 /* Sets the rows: both searches by both sides in texts; preparation and the check of patterns by the sides that have them. Kinds
@@ -50,7 +57,11 @@ extern struct row *const longest_texts; /* one of each kind */
 void set_rows(void);
 void add_trial(struct row *row, const struct work *work, int variants, struct share share);
 
-/* Whether that is so of every subject of every row, but for those left out. A row of which it isn't is printed. */
+/* Reads what a side has prepared, before its run: the other side has its own, and the cache may be too small for both. */
+void read_prepared(int side);
+
+/* Whether that is so of every subject of every row, but for those left out; and whether a text that shall be without occurrences is
+   so. A row of which it isn't is printed. */
 bool agree_on_rows(bool (*agree)(const struct subject *subject));
 bool sides_agree(const struct subject *subject);
 
@@ -58,11 +69,13 @@ void measure_rows(void);
 
 const char *name_of(const struct row *row);
 const char *size_name_of(const struct row *row);
+double nanoseconds_of(const struct row *row, double seconds); /* a byte of the text, or a call */
 
 /* The table of the first two trials of rows: its head, with the names of both sides; and lines with the least times in
    nanoseconds, a byte or a call, and the ratios, with geometric means at the end: of rows, and of the texts of each size, where
    the plain kinds have a mean of their own and those with classes have another. */
 void print_head_of_ratios(const char *other, const char *ours);
+void print_row(const struct row *row, const struct trial *trial); /* without the end of the line */
 void print_ratios(const char *mean, const struct row *from, size_t count);
 void print_text_ratios(void);
 

@@ -36,6 +36,14 @@ struct report {
 typedef void search_function(const void *prepared, const struct subject *subject, uint64_t cap, uint32_t *positions, size_t room,
                              struct report *report);
 
+/* The library's answer to where the pattern occurs first; and the search for it, with a place for the answer, or NULL. */
+struct first {
+    uint32_t refusal, found;
+    size_t position;
+    uint64_t count;
+};
+typedef void first_function(const void *prepared, const struct subject *subject, struct first *first);
+
 static inline void give(struct report *place, struct report report)
 {
     if (place != NULL)
@@ -54,9 +62,10 @@ struct tables {
    the library has prepared. */
 struct version {
     search_function *colussi, *kmp;
-    size_t size;      /* of a store */
-    bool has_classes; /* or else it can only be asked where they are the identity */
-    bool has_columns; /* or else it reports the count alone */
+    first_function *first; /* NULL in a build that has none */
+    size_t size;           /* of a store */
+    bool has_classes;      /* or else it can only be asked where they are the identity */
+    bool has_columns;      /* or else it reports the count alone */
     /* Prepares the pattern of a subject, into a store or NULL, and gives the number of the refusal. */
     uint32_t (*prepare)(const struct subject *subject, uint16_t *scratch, size_t scratch_len, void *prepared);
     void (*copy_tables)(const void *prepared, struct tables *tables);

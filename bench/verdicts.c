@@ -7,19 +7,22 @@ double ratio_of(const struct row *row, int search)
     return row->trial[search].times[OTHER].ratios[TENTH];
 }
 
+void into_range(struct range *range, const struct row *row, int search, double target)
+{
+    range->rows++;
+    range->missed += ratio_of(row, search) < target;
+    if (range->least == NULL || ratio_of(row, search) < ratio_of(range->least, search))
+        range->least = row;
+    if (range->greatest == NULL || ratio_of(row, search) > ratio_of(range->greatest, search))
+        range->greatest = row;
+}
+
 struct range range_of(size_t kind, size_t count, int search, double target)
 {
     struct range range = {NULL, NULL, 0, 0};
-    for (const struct row *row = rows; row < rows + TEXTS; row++) {
-        if (row->input.kind < &kinds[kind] || row->input.kind >= &kinds[kind] + count || row->trials == 0)
-            continue;
-        range.rows++;
-        range.missed += ratio_of(row, search) < target;
-        if (range.least == NULL || ratio_of(row, search) < ratio_of(range.least, search))
-            range.least = row;
-        if (range.greatest == NULL || ratio_of(row, search) > ratio_of(range.greatest, search))
-            range.greatest = row;
-    }
+    for (const struct row *row = rows; row < rows + TEXTS; row++)
+        if (row->input.kind >= &kinds[kind] && row->input.kind < &kinds[kind] + count && row->trials > 0)
+            into_range(&range, row, search, target);
     return range;
 }
 
@@ -28,22 +31,29 @@ const char *word(bool holds)
     return holds ? "holds" : "FAILS";
 }
 
-/* The least times of each copy, in nanoseconds a byte: what the place of the code does. */
+/* The least times of each copy, in nanoseconds a byte or a call: what the place of the code does. */
 static void print_copies(const struct row *row, int search, enum side side)
 {
     const struct trial *trial = &row->trial[search];
     for (int copy = 0; copy < trial->share.copies; copy++)
-        printf(" %.2f", trial->seconds[side][copy][0] / (double)row->input.size->n * 1e9);
+        printf(" %.2f", nanoseconds_of(row, trial->seconds[side][copy][0]));
+}
+
+void judge_range(const char *other, const char *claim, const struct range *range, int search)
+{
+    const struct row *worst = range->least;
+    printf("- %s: %s; least %.3f (%s, ", word(range->missed == 0), claim, ratio_of(worst, search), name_of(worst));
+    if (worst->input.kind != NULL)
+        printf("n = %s, ", size_name_of(worst));
+    printf("m = %zu; copy by copy, ours", worst->input.m);
+    print_copies(worst, search, OURS);
+    printf(", %s", other);
+    print_copies(worst, search, OTHER);
+    printf("), missed on %zu of %zu rows\n", range->missed, range->rows);
 }
 
 void judge_ratio(const char *other, const char *claim, size_t kind, size_t count, int search, double target)
 {
     const struct range range = range_of(kind, count, search, target);
-    const struct row *worst = range.least;
-    printf("- %s: %s; least %.3f (%s, n = %s, m = %zu; copy by copy, ours", word(range.missed == 0), claim,
-           ratio_of(worst, search), name_of(worst), size_name_of(worst), worst->input.m);
-    print_copies(worst, search, OURS);
-    printf(", %s", other);
-    print_copies(worst, search, OTHER);
-    printf("), missed on %zu of %zu rows\n", range.missed, range.rows);
+    judge_range(other, claim, &range, search);
 }

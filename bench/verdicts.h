@@ -13,10 +13,12 @@ struct range {
 };
 
 struct range range_of(size_t kind, size_t count, int search, double target);
+void into_range(struct range *range, const struct row *row, int search, double target);
 
 const char *word(bool holds);
 
 /* Prints whether all of these rows reach the target, and the least of them. The other side goes by that name. */
 void judge_ratio(const char *other, const char *claim, size_t kind, size_t count, int search, double target);
+void judge_range(const char *other, const char *claim, const struct range *range, int search);
 
 #endif

@@ -84,6 +84,14 @@ typedef struct poqewan_report {
     size_t written;      /* the positions written into the list */
 } poqewan_report;
 
+/* The number of a refusal, and then all else is 0; or 0 and whether the pattern occurs. */
+typedef struct poqewan_first {
+    uint32_t refusal;
+    uint32_t found;  /* 1 if the pattern occurs, or 0 */
+    size_t position; /* where it occurs first, or 0 */
+    uint64_t count;  /* the comparisons of a pattern byte with a text byte */
+} poqewan_first;
+
 /* Fills entry v with v mod 256. So POQEWAN_CLASSES entries give each byte value a class of its own: itself. */
 void poqewan_identity(uint8_t *classes, size_t classes_len);
 
@@ -129,6 +137,19 @@ poqewan_report poqewan_colussi(poqewan_pattern pattern, const uint8_t *text, siz
  */
 poqewan_report poqewan_kmp(poqewan_pattern pattern, const uint8_t *text, size_t text_len, uint64_t cap,
                            uint32_t *positions, size_t positions_len);
+
+/*
+ * Searches a text in Colussi's order, without a cap, for the first position where the pattern occurs, and stops there.
+ * Refused, in this order: a pattern that is not what preparation gives for its own length, bytes and classes (4), a text of
+ * more than POQEWAN_LONGEST_TEXT bytes (5).
+ *
+ * The answer is that of poqewan_colussi run to its end. `position` is the first entry of its list, and `found` is 0 exactly
+ * where that list is empty. `count` is its count at that moment, or at its end where the list is empty: its comparisons
+ * begin with exactly these. The occurrence covers no byte 0 of the text. With n text bytes and m pattern bytes,
+ * 2 * count <= 3 * b + 2 * m where the pattern occurs first at position b. Where it does not occur, 2 * count <= 3 * n - m
+ * if n >= m, and count = 0 if n < m.
+ */
+poqewan_first poqewan_find_first(poqewan_pattern pattern, const uint8_t *text, size_t text_len);
 
 /* The charge of a count of comparisons: its started thousands. */
 uint64_t poqewan_charge(uint64_t count);

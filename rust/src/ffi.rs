@@ -23,6 +23,15 @@ pub struct Report {
     pub written: usize,
 }
 
+/// The number of a refusal, and then all else is 0; or 0 and whether the pattern occurs.
+#[repr(C)]
+pub struct First {
+    pub refusal: u32,
+    pub found: u32,
+    pub position: usize,
+    pub count: u64,
+}
+
 /// The type of both searches.
 pub type Search = unsafe extern "C" fn(
     pattern: Pattern,
@@ -63,6 +72,8 @@ extern "C" {
         positions_len: usize,
     ) -> Report;
 
+    pub fn poqewan_find_first(pattern: Pattern, text: *const u8, text_len: usize) -> First;
+
     pub fn poqewan_charge(count: u64) -> u64;
 }
 
@@ -91,4 +102,10 @@ const _: () = {
     assert!(offset_of!(Report, at_noholes) == 24);
     assert!(offset_of!(Report, at_holes) == 32);
     assert!(offset_of!(Report, written) == 40);
+
+    assert!(size_of::<First>() == 24);
+    assert!(offset_of!(First, refusal) == 0);
+    assert!(offset_of!(First, found) == 4);
+    assert!(offset_of!(First, position) == 8);
+    assert!(offset_of!(First, count) == 16);
 };

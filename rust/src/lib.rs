@@ -41,6 +41,21 @@
 //! assert_eq!(positions[..report.written], [0, 2]);
 //! # Ok::<(), Refusal>(())
 //! ```
+//!
+//! Where it is enough to know whether the pattern occurs, and where first:
+//!
+//! ```
+//! use poqewan::{find_first, identity, prepare, First, Refusal, SCRATCH};
+//!
+//! let pattern = prepare(b"aba", &identity(), &mut [0; SCRATCH])?.pattern;
+//!
+//! let first = find_first(&pattern, b"cababa")?;
+//! assert_eq!(first, First::At { position: 1, count: 4 });
+//!
+//! let first = find_first(&pattern, b"abb")?;
+//! assert_eq!(first, First::Absent { count: 2 });
+//! # Ok::<(), Refusal>(())
+//! ```
 
 #![deny(unsafe_op_in_unsafe_fn, missing_docs)]
 #![deny(clippy::undocumented_unsafe_blocks)]
@@ -175,6 +190,23 @@ pub struct Report {
     pub written: usize,
 }
 
+/// Whether a pattern occurs, and where first.
+#[derive(Clone, Copy, Debug, PartialEq, Eq, Hash)]
+pub enum First {
+    /// It occurs.
+    At {
+        /// Where it occurs first.
+        position: usize,
+        /// The comparisons of a pattern byte with a text byte, up to this occurrence.
+        count: u64,
+    },
+    /// It occurs nowhere.
+    Absent {
+        /// The comparisons of a pattern byte with a text byte, up to the text's end.
+        count: u64,
+    },
+}
+
 /// The classes that give each byte value a class of its own: itself.
 #[must_use]
 pub fn identity() -> [u8; CLASSES] {
@@ -266,6 +298,27 @@ pub fn kmp(
     search(ffi::poqewan_kmp, pattern, text, cap, positions)
 }
 
+/// Searches a text in Colussi's order, without a cap, for the first position where the pattern
+/// occurs, and stops there.
+///
+/// The answer is that of [`colussi`] run to its end. The position is the first entry of its list,
+/// and the answer is [`First::Absent`] exactly where that list is empty. The count is that search's
+/// at that moment, or at its end where the list is empty: its comparisons begin with exactly these.
+/// The occurrence covers no byte 0 of the text. With n text bytes and m pattern bytes,
+/// 2 * count <= 3 * b + 2 * m where the pattern occurs first at position b. Where it is absent,
+/// 2 * count <= 3 * n - m if n >= m, and count = 0 if n < m.
+///
+/// # Errors
+///
+/// Refused, in this order: a pattern that is not what preparation gives for its own length, bytes
+/// and classes (4), a text of more than [`LONGEST_TEXT`] bytes (5).
+pub fn find_first(pattern: &Pattern, text: &[u8]) -> Result<First, Refusal> {
+    // SAFETY: the pointer and the number of elements are those of a slice. Any value of the pattern
+    // is answered.
+    let answer = unsafe { ffi::poqewan_find_first(*pattern, text.as_ptr(), text.len()) };
+    first_of(&answer)
+}
+
 /// The charge of a count of comparisons: its started thousands.
 #[must_use]
 pub fn charge(count: u64) -> u64 {
@@ -330,6 +383,21 @@ fn searched(answer: &ffi::Report) -> Result<Report, Refusal> {
     })
 }
 
+/// Reads what a search for the first position answered.
+fn first_of(answer: &ffi::First) -> Result<First, Refusal> {
+    accepted(answer.refusal)?;
+    Ok(match answer.found {
+        0 => First::Absent {
+            count: answer.count,
+        },
+        1 => First::At {
+            position: answer.position,
+            count: answer.count,
+        },
+        other => unreachable!("the library's contract has no found {other}"),
+    })
+}
+
 #[cfg(test)]
 mod tests {
     use super::*;
@@ -381,5 +449,35 @@ mod tests {
             written: 5,
         };
         assert_eq!(searched(&answer), Ok(report));
+    }
+
+    #[test]
+    #[should_panic(expected = "no found 2")]
+    fn a_found_outside_the_contract_panics() {
+        let _ = first_of(&ffi::First {
+            refusal: 0,
+            found: 2,
+            position: 0,
+            count: 0,
+        });
+    }
+
+    #[test]
+    fn each_field_of_a_first_position_is_read_as_that_field() {
+        let at = ffi::First {
+            refusal: 0,
+            found: 1,
+            position: 2,
+            count: 7,
+        };
+        let absent = ffi::First { found: 0, ..at };
+        let refused = ffi::First { refusal: 5, ..at };
+        let expected = First::At {
+            position: 2,
+            count: 7,
+        };
+        assert_eq!(first_of(&at), Ok(expected));
+        assert_eq!(first_of(&absent), Ok(First::Absent { count: 7 }));
+        assert_eq!(first_of(&refused), Err(Refusal::LongText));
     }
 }

@@ -7,7 +7,7 @@ mod oracle;
 use common::classes::{c_in_b, letters, one_but_0, Classes, Drawn};
 use common::worked::{row, Row, LONG, NO_CAP};
 use common::{changed, fibonacci, repeated, words, Method, Random, Trial, UNWRITTEN};
-use oracle::{identity, Tables, LONGEST_PATTERN};
+use oracle::{identity, Listed, Tables, LONGEST_PATTERN};
 use poqewan::Ending::{Done, Full, Spent};
 use poqewan::{Report, LONGEST_TEXT};
 
@@ -205,9 +205,9 @@ fn columns_by_bytes(bytes: &[u8], classes: &Classes, text: &[u8]) -> [[u64; 2]; 
         nohole: Tables::of(bytes, &identity()).nohole,
         ..Tables::of(bytes, classes)
     };
-    let mut positions = Vec::new();
+    let mut listed = Listed::default();
     [oracle::search_by_rules, oracle::kmp_by_rules]
-        .map(|search| columns(&search(&tables, text, NO_CAP, usize::MAX, &mut positions)))
+        .map(|search| columns(&search(&tables, text, NO_CAP, usize::MAX, &mut listed)))
 }
 
 /// With fewer than 256 classes the columns by bytes are often others; with 256 they are the same.

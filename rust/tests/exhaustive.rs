@@ -3,14 +3,7 @@
 mod common;
 mod oracle;
 
-use common::{words, Trial};
-
-/// All words from one length to another.
-fn words_of_lengths(letters: &[u8], shortest: usize, longest: usize) -> Vec<Vec<u8>> {
-    (shortest..=longest)
-        .flat_map(|len| words(letters, len))
-        .collect()
-}
+use common::{words, words_of_lengths, Trial};
 
 /// Runs both searches for every pattern in every text.
 fn search_all<'a>(patterns: impl IntoIterator<Item = &'a Vec<u8>>, texts: &[Vec<u8>]) {

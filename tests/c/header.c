@@ -12,6 +12,9 @@ uint64_t charge_of(const uint8_t *bytes, size_t m, const uint8_t *text, size_t n
     poqewan_preparation p = poqewan_prepare(bytes, m, classes, POQEWAN_CLASSES, scratch, POQEWAN_SCRATCH);
     if (p.refusal != 0)
         return 0;
+    poqewan_first f = poqewan_find_first(p.pattern, text, n);
+    if (f.refusal != 0 || f.found == 0)
+        return poqewan_charge(f.count);
     poqewan_report r = poqewan_colussi(p.pattern, text, n, UINT64_MAX, positions, 8192);
     if (r.refusal != 0 || r.ending != POQEWAN_DONE)
         r = poqewan_kmp(p.pattern, text, n, UINT64_MAX, positions, 0);

@@ -49,6 +49,11 @@ _Static_assert(offsetof(poqewan_report, count) == 16, "count");
 _Static_assert(offsetof(poqewan_report, at_noholes) == 24, "at_noholes");
 _Static_assert(offsetof(poqewan_report, at_holes) == 32, "at_holes");
 _Static_assert(offsetof(poqewan_report, written) == 40, "written");
+_Static_assert(sizeof(poqewan_first) == 24, "poqewan_first");
+_Static_assert(offsetof(poqewan_first, refusal) == 0, "refusal");
+_Static_assert(offsetof(poqewan_first, found) == 4, "found");
+_Static_assert(offsetof(poqewan_first, position) == 8, "position");
+_Static_assert(offsetof(poqewan_first, count) == 16, "count");
 
 /* The bytes of a pattern that belong to no field. */
 #define PADDING_FROM (offsetof(poqewan_pattern, next) + sizeof ((poqewan_pattern *)NULL)->next)
@@ -184,6 +189,16 @@ static bool is_report(poqewan_report report, uint32_t ending, size_t window, str
            report.at_noholes == counts.at_noholes && report.at_holes == counts.at_holes && report.written == written;
 }
 
+static bool is_first(poqewan_first first, uint32_t found, size_t position, uint64_t count)
+{
+    return first.refusal == 0 && first.found == found && first.position == position && first.count == count;
+}
+
+static bool is_refused_first(poqewan_first first, uint32_t number)
+{
+    return first.refusal == number && first.found == 0 && first.position == 0 && first.count == 0;
+}
+
 /* Field by field: what the padding holds is nobody's promise. */
 static bool is_zero(const poqewan_pattern *pattern)
 {
@@ -239,10 +254,11 @@ static poqewan_pattern prepared(const char *word)
     return prepared_by(own, word);
 }
 
-/* Both searches must refuse with this number and leave the list as it is. */
+/* All searches must refuse with this number and leave the list as it is. */
 static void check_refused(const poqewan_pattern *pattern, const uint8_t *text, size_t text_len, uint32_t number)
 {
     uint32_t *list = lend_list(4);
+    CHECK(is_refused_first(poqewan_find_first(*pattern, text, text_len), number));
     for (int s = 0; s < SEARCHES; s++) {
         CHECK(is_refusal(searches[s](*pattern, text, text_len, UINT64_MAX, list, 4), number));
         CHECK(unwritten(list, 0, 4));
@@ -324,6 +340,60 @@ static void test_worked_records(void)
         check_record(&more_records[i], own);
     for (size_t i = 0; i < sizeof joined_records / sizeof *joined_records; i++)
         check_record(&joined_records[i], joined);
+}
+
+/* Worked by hand from the same rules: the first position or absent, with the places that are compared, a word for each
+   window. First document 01's records. Then such as have the occurrence after misses, or none; where a miss at a hole sets
+   the known edge, which saves comparisons in the next window; texts as long as the pattern, and shorter; patterns of one
+   byte; and by the joined classes. */
+static const struct first_record {
+    const uint8_t *classes;
+    const char *pattern, *text;
+    uint32_t found;
+    size_t position;
+    const char *compared;
+} first_records[] = {
+    {own, "a", "aab", 1, 0, "0"},
+    {own, "aa", "aaaa", 1, 0, "10"},
+    {own, "ab", "aaaa", 0, 0, "1 1 1"},
+    {own, "aba", "ababa", 1, 0, "120"},
+    {own, "aabaa", "aabaaaabaa", 1, 0, "24310"},
+    {own, "aba", "ab", 0, 0, ""},
+    {own, "aba", "aba", 1, 0, "120"},
+    {own, "aab", "aaaaab", 1, 3, "2 2 2 210"},
+    {own, "abab", "abacabab", 1, 4, "13 1 1320"},
+    {own, "aba", "cabababa", 1, 1, "1 120"},
+    {own, "abb", "ababab", 0, 0, "12 12"},
+    {own, "abab", "abacabac", 0, 0, "13 1 13"},
+    {own, "aaa", "baaa", 1, 1, "210 2"},
+    {own, "aba", "cbaba", 1, 2, "120 12"},
+    {own, "abab", "cbabab", 1, 2, "1320 32"},
+    {own, "aabaa", "cabaabaa", 1, 3, "24310 243"},
+    {own, "aba", "cbaca", 0, 0, "120 1"},
+    {own, "aba", "bba", 0, 0, "120"},
+    {own, "aba", "", 0, 0, ""},
+    {own, "a", "", 0, 0, ""},
+    {own, "a", "b", 0, 0, "0"},
+    {own, "a", "bbbab", 1, 3, "0 0 0 0"},
+    {joined, "aBa", "DbAcA", 1, 2, "120 12"},
+    {joined, "bca", "cabBA", 1, 2, "2 2 210"},
+    {joined, "bca", "cacac", 0, 0, "2 210"},
+};
+
+static void test_worked_first_positions(void)
+{
+    for (size_t i = 0; i < sizeof first_records / sizeof *first_records; i++) {
+        const struct first_record *r = &first_records[i];
+        poqewan_pattern pattern = prepared_by(r->classes, r->pattern);
+        size_t n = strlen(r->text);
+        uint8_t *text = lend_bytes(r->text, n);
+        uint64_t count = 0;
+        for (const char *c = r->compared; *c != '\0'; c++)
+            count += *c != ' ';
+        CHECK(is_first(poqewan_find_first(pattern, text, n), r->found, r->position, count));
+        CHECK(n == 0 || memcmp(text, r->text, n) == 0);
+        free(text);
+    }
 }
 
 /* Document 01's tables for aba and aabaa: of these words and, by the joined classes, of such as have others by themselves.
@@ -614,6 +684,9 @@ static void test_null(void)
         CHECK(is_report(searches[s](pattern, a, 1, 1, NULL, 0), POQEWAN_FULL, 0, (struct counts){1, 0, 1}, 0));
     }
     CHECK(unwritten(list, 0, 1));
+    CHECK(is_first(poqewan_find_first(pattern, NULL, 0), 0, 0, 0));
+    pattern.noholes++;
+    check_refused(&pattern, NULL, 0, POQEWAN_FALSE_PATTERN);
     free(list);
     free(a);
 }
@@ -633,10 +706,12 @@ static void test_changed_patterns(void)
                 continue;
             memcpy(&changed, &pattern, sizeof pattern);
             ((uint8_t *)&changed)[at] ^= (uint8_t)(1u << at % 8);
-            if (PADDING_FROM <= at && at < PADDING_TO)
+            if (PADDING_FROM <= at && at < PADDING_TO) {
                 CHECK(is_report(poqewan_colussi(changed, text, 12, 0, NULL, 0), POQEWAN_SPENT, 0, none, 0));
-            else
+                CHECK(poqewan_find_first(changed, text, 12).found == 1);
+            } else {
                 check_refused(&changed, text, 12, POQEWAN_FALSE_PATTERN);
+            }
         }
     }
     free(text);
@@ -776,7 +851,25 @@ static poqewan_report by_rules(int search, const poqewan_pattern *pattern, const
     return r;
 }
 
-/* Runs one search and checks what is promised of any report. Gives the report. */
+/* Asks for the first position and checks it: it is that of the naive search, and the first entry of the list of the full
+   search, which is given; the count is the rules' when they come to it or at their end; and the ceiling is kept. */
+static void check_first(const poqewan_pattern *pattern, const uint8_t *text, size_t n, poqewan_report full,
+                        const uint32_t *list)
+{
+    poqewan_first first = poqewan_find_first(*pattern, text, n);
+    poqewan_report rules = by_rules(COLUSSI, pattern, text, n, UINT64_MAX, 0);
+    size_t b = 0;
+    while (b < n && !occurs(pattern, text, n, b))
+        b++;
+    CHECK(is_first(first, b < n, b < n ? b : 0, rules.count));
+    CHECK(rules.ending == (first.found ? POQEWAN_FULL : POQEWAN_DONE) && rules.window == first.position);
+    CHECK(first.found ? full.written > 0 && list[0] == first.position && first.count <= full.count
+                      : full.written == 0 && first.count == full.count);
+    CHECK(under_ceiling(COLUSSI, rules, pattern->len, n));
+}
+
+/* Runs one search and checks what is promised of any report; where the one in Colussi's order is run to its end, the first
+   position as well. Gives the report. */
 static poqewan_report check_search(int search, const poqewan_pattern *pattern, const uint8_t *text, size_t n,
                                    uint64_t cap, size_t list_len)
 {
@@ -799,6 +892,8 @@ static poqewan_report check_search(int search, const poqewan_pattern *pattern, c
         CHECK(r.count == cap && r.window + m <= n);
     if (r.ending == POQEWAN_FULL)
         CHECK(r.written == list_len && occurs(pattern, text, n, r.window));
+    if (search == COLUSSI && r.ending == POQEWAN_DONE)
+        check_first(pattern, text, n, r, list);
     free(list);
     return r;
 }
@@ -1049,6 +1144,8 @@ static void test_longest_text(void)
         CHECK(under_ceiling(s, r, 2, n));
         free(list);
     }
+    CHECK(is_first(poqewan_find_first(pattern, text, n), 1, n - 2, n));
+    CHECK(is_first(poqewan_find_first(pattern, text, n - 1), 0, 0, n - 2));
     free(text);
 }
 
@@ -1084,6 +1181,7 @@ int main(int argc, char **argv)
     bool quick = argc > 1 && strcmp(argv[1], "quick") == 0;
     fill_classes();
     test_worked_records();
+    test_worked_first_positions();
     test_worked_tables();
     test_worked_costs();
     test_costs_of_the_longest();

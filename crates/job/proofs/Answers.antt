@@ -11,8 +11,9 @@ use Rattle.input.specs.Parsed.{longestText, patternIn, textIn, parsed, IfParts,
 use Rattle.input.specs.declared.Parsed.{Parsed}
 use Rattle.input.specs.declared.Parsed.the-variants.{Parts, Refused}
 use Rattle.input.proofs.Cut.{patternCut, textCut, pattern-cut, text-cut}
+use Rattle.rules.specs.Rules.{noCap}
 use Rattle.rules.specs.Colussi.{colussi}
-use Rattle.job.specs.Limits.{bufferSize, listSize, noCap}
+use Rattle.job.specs.Limits.{bufferSize, listSize}
 use Rattle.job.specs.Printed.{refused-line, search-lines, printed}
 use Rattle.job.specs.Answer.{answerOf, bufferAfter}
 use Rattle.job.specs.Internal.Writing.{Puts}

@@ -1,10 +1,7 @@
--- The program's limits, each in one place; that of the text is `input`'s. Those of the cap and the list are document 01's.
+-- The program's limits, each in one place; that of the text is `input`'s. That of the list is document 01's.
 use Prim.Native.Nat.{ℕ}
 
--- The cap of its search, 2^64 - 1, and the entries of its list.
-abbrev pub noCap : ℕ
-noCap = 18446744073709551615
-
+-- The entries of the list of its search.
 abbrev pub listSize : ℕ
 listSize = 8192
 

@@ -5,14 +5,14 @@ use mathlib.Core.List.{List, [], _∷_, _++_}
 use lib.ListN.{length}
 use Rattle.refusal.specs.Numbers.{numberOf}
 use Rattle.refusal.specs.declared.Refusal.{Refusal}
-use Rattle.rules.specs.Rules.{End}
+use Rattle.rules.specs.Rules.{End, noCap}
 use Rattle.rules.specs.Colussi.{colussi}
 use Rattle.rules.specs.declared.Ending.{Ending}
 use Rattle.rules.specs.declared.Ending.the-variants.{Done, Spent, Full}
 use Rattle.charge.specs.Charged.{charged}
 use Rattle.input.specs.Parsed.{patternIn, textIn, parsed}
 use Rattle.input.specs.declared.Parsed.the-variants.{Parts, Refused}
-use Rattle.job.specs.Limits.{noCap, listSize}
+use Rattle.job.specs.Limits.{listSize}
 use Rattle.job.specs.Text.{ascii, decimal}
 
 -- A word, a number in decimal and a newline.

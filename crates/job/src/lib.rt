@@ -5,21 +5,21 @@ mod text;
 pub use input::LONGEST_TEXT;
 use input::Parsed;
 use preparation::SCRATCH;
+use rules::NO_CAP;
 use search::SearchAnswer;
 ghost use mathlib.Core.Path.{_≡_};
 ghost use Prim.Native.Nat.{_≤_};
 ghost use lib.ListN.{length};
 ghost use Rattle.intake.specs.Outcomes.{Preparable};
 ghost use Rattle.input.specs.Parsed.{longestText};
+ghost use Rattle.rules.specs.Rules.{noCap};
 ghost use Rattle.rules.specs.Colussi.{colussi};
-ghost use Rattle.job.specs.Limits.{noCap, listSize, bufferSize};
+ghost use Rattle.job.specs.Limits.{listSize, bufferSize};
 ghost use Rattle.job.specs.Printed.{search-lines};
 ghost use Rattle.job.specs.Answer.{answerOf, bufferAfter};
 ghost use Rattle.job.specs.Internal.Writing.{Puts};
 
-// The cap of the search, 2^64 - 1, and the entries of its list.
-const NO_CAP: u64 = 18446744073709551615;
-
+// The entries of the search's list.
 pub const LIST: usize = 8192;
 // The bytes of a buffer that has room for the longest output.
 pub const BUFFER: usize = 196608;

@@ -3,6 +3,9 @@ use Prim.Native.Nat.{ℕ}
 use mathlib.Core.Path.{_≡_, refl}
 use mathlib.Core.Logic.{_↔_}
 use native.Mathlib.Omega.{arith}
+use Rattle.first.specs.declared.FirstAnswer.{FirstAnswer}
+use Rattle.first.specs.declared.FirstAnswer.the-variants.{At, Absent}
+use Rattle.first.specs.declared.FirstAnswer.the-variants as firsts
 use Rattle.intake.specs.declared.Outcome.{Outcome}
 use Rattle.intake.specs.declared.Outcome.the-variants as outcomes
 use Rattle.refusal.proofs.NotZero.{number-not-0}
@@ -12,8 +15,9 @@ use Rattle.rules.specs.declared.Report.{Report}
 use Rattle.search.specs.declared.SearchAnswer.{SearchAnswer}
 use Rattle.search.specs.declared.SearchAnswer.the-variants.{Ran, Refused}
 use Rattle.search.specs.Promise.{IfRan}
-use Rattle.poqewan.specs.Carried.{outcomeNumber, endingNumber, endingWindow, endingOf, carriedReport, carried, reportIn}
+use Rattle.poqewan.specs.Carried.{outcomeNumber, endingNumber, endingWindow, endingOf, carriedReport, carried, reportIn, carriedFirst, firstIn}
 use Rattle.poqewan.specs.declared.SearchReport.{SearchReport}
+use Rattle.poqewan.specs.declared.First.{First}
 
 -- What C receives with refusal 0 was ready.
 pub ready-is-0 : (o : Outcome) → (outcomeNumber o ≡ 0) ↔ (o ≡ outcomes.Ready)
@@ -35,3 +39,12 @@ promised-to-c P a e holds none = rw e (of a holds (rw e at none))
     of : (a : SearchAnswer) → IfRan P a → carried a .refusal ≡ 0 → P (reportIn (carried a))
     of (Ran r) holds z = rw (report-back r) holds
     of (Refused why) holds z = absurd (number-not-0 why z)
+
+-- The answer of the search for the first position is read back as it was, beside refusal 0.
+pub first-back : (a : FirstAnswer) {r : First} → r ≡ carriedFirst a → r .refusal ≡ 0 → firstIn r ≡ a
+first-back a e none = rw e (of a (rw e at none))
+  where
+    of : (a : FirstAnswer) → carriedFirst a .refusal ≡ 0 → firstIn (carriedFirst a) ≡ a
+    of (At b count) z = refl
+    of (Absent count) z = refl
+    of (firsts.Refused why) z = absurd (number-not-0 why z)

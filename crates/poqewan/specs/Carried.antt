@@ -1,5 +1,8 @@
 -- How answers cross to C: refusals and endings by number.
 use Prim.Native.Nat.{ℕ, zero, suc}
+use Rattle.first.specs.declared.FirstAnswer.{FirstAnswer}
+use Rattle.first.specs.declared.FirstAnswer.the-variants.{At, Absent}
+use Rattle.first.specs.declared.FirstAnswer.the-variants as firsts
 use Rattle.intake.specs.declared.Outcome.{Outcome}
 use Rattle.intake.specs.declared.Outcome.the-variants.{Ready, Refused}
 use Rattle.preparation.specs.declared.Prepared.{Prepared}
@@ -12,6 +15,7 @@ use Rattle.search.specs.declared.SearchAnswer.the-variants.{Ran}
 use Rattle.search.specs.declared.SearchAnswer.the-variants as answers
 use Rattle.poqewan.specs.declared.Preparation.{Preparation}
 use Rattle.poqewan.specs.declared.SearchReport.{SearchReport}
+use Rattle.poqewan.specs.declared.First.{First}
 
 -- 0, or the number of the refusal.
 abbrev pub outcomeNumber : Outcome → ℕ
@@ -64,3 +68,17 @@ reportIn r = record {
   holes = r .holes;
   written = r .written;
 }
+
+-- The answer of the search for the first position: found is 1 beside a position, and 0 where the pattern is absent.
+abbrev pub carriedFirst : FirstAnswer → First
+carriedFirst (At b count) = record { refusal = 0; found = 1; position = b; count = count }
+carriedFirst (Absent count) = record { refusal = 0; found = 0; position = 0; count = count }
+carriedFirst (firsts.Refused why) = record { refusal = numberOf why; found = 0; position = 0; count = 0 }
+
+-- Read back, beside refusal 0.
+abbrev pub foundAt : ℕ → ℕ → ℕ → FirstAnswer
+foundAt zero b count = Absent count
+foundAt (suc n) b count = At b count
+
+abbrev pub firstIn : First → FirstAnswer
+firstIn r = foundAt (r .found) (r .position) (r .count)

@@ -1,5 +1,6 @@
 // What C and Rust may call: the proved functions over numbers, slices and structs of a fixed layout. No function has a precondition, so
 // nothing is asked of a caller but what C asks of pointers.
+use first::FirstAnswer;
 use pattern::Pattern;
 use preparation::Outcome;
 use rules::Ending;
@@ -11,6 +12,8 @@ ghost use Prim.Native.Nat.{_+_, _*_, _≤_, _<_};
 ghost use lib.ListN.{length};
 ghost use Rattle.charge.specs.Charged.{charged};
 ghost use Rattle.classes.specs.Classes.{identity, identityIn};
+ghost use Rattle.first.specs.Answer.{firstBy, plainFirstBy};
+ghost use Rattle.first.specs.Promise.{FirstOfFull, FirstInBytes, FirstUnderCeiling, FirstCoversNoZero};
 ghost use Rattle.intake.specs.Sizes.{scratchSize};
 ghost use Rattle.intake.specs.Outcomes.{Preparable, Usable};
 ghost use Rattle.hmax.specs.FastMethod.{FewCompared};
@@ -21,7 +24,7 @@ ghost use Rattle.rules.specs.Kmp.{kmp};
 ghost use Rattle.rules.specs.Report.{Columns};
 ghost use Rattle.search.specs.Answer.{answerBy, listBy, plainAnswerBy, plainListBy};
 ghost use Rattle.search.specs.Promise.{Located, ListedBy, UnderCeiling, UnderKmpCeiling, AsColussi, NoZeroCovered};
-ghost use Rattle.poqewan.specs.Carried.{outcomeNumber, carriedPreparation, endingNumber, endingWindow, carriedReport, carried, reportIn};
+ghost use Rattle.poqewan.specs.Carried.{outcomeNumber, carriedPreparation, endingNumber, endingWindow, carriedReport, carried, reportIn, carriedFirst, firstIn};
 
 // The number of a refusal, and then all else is 0; or 0, how many pairs of the pattern's letters were compared to build hmax, and the pattern.
 #[repr(C)]
@@ -42,6 +45,15 @@ pub struct SearchReport {
     pub noholes: u64,
     pub holes: u64,
     pub written: usize,
+}
+
+// The number of a refusal, and then all else is 0; or 0, whether the pattern occurs, as 1 or 0, where it occurs first, or 0, and the count.
+#[repr(C)]
+pub struct First {
+    pub refusal: u32,
+    pub found: u32,
+    pub position: usize,
+    pub count: u64,
 }
 
 // The number of a refusal, or 0.
@@ -101,6 +113,31 @@ fn carry(answer: SearchAnswer) -> SearchReport
             noholes: 0,
             holes: 0,
             written: 0,
+        },
+    }
+}
+
+fn carry_first(answer: FirstAnswer) -> First
+    ensures { λ r. ⌜ r ≡ carriedFirst answer ⌝ }
+{
+    match answer {
+        FirstAnswer::At(position, count) => First {
+            refusal: 0,
+            found: 1,
+            position,
+            count,
+        },
+        FirstAnswer::Absent(count) => First {
+            refusal: 0,
+            found: 0,
+            position: 0,
+            count,
+        },
+        FirstAnswer::Refused(why) => First {
+            refusal: why.number() as u32,
+            found: 0,
+            position: 0,
+            count: 0,
         },
     }
 }
@@ -183,6 +220,20 @@ pub extern "C" fn poqewan_kmp(
     ensures plain { λ r. ⌜ (pattern .classes ≡ identity → (r ≡ carried (plainAnswerBy kmp pattern (now (text .entry)) cap (length (now (positions .entry))))) × (now (positions .exit) ≡ plainListBy kmp pattern (now (text .entry)) cap (now (positions .entry)))) ⌝ }
 {
     carry(search::kmp(pattern, text, cap, positions))
+}
+
+// Searches a text in Colussi's order, without a cap, up to the first position where the pattern occurs. Refused, in this order: a pattern that
+// is not what preparation gives for its own length, bytes and classes (4), a text that is longer than the longest (5).
+#[no_mangle]
+pub extern "C" fn poqewan_find_first(pattern: Pattern, text: &[u8]) -> First
+    ensures answer { λ r. ⌜ r ≡ carriedFirst (firstBy pattern (now (text .entry))) ⌝ }
+    ensures full { λ r. ⌜ (r .refusal ≡ 0 → FirstOfFull (wordOf pattern) (textOf pattern (now (text .entry))) (firstIn r)) ⌝ }
+    ensures classed { λ r. ⌜ (r .refusal ≡ 0 → FirstInBytes (pattern .classes) (ownBytes pattern) (now (text .entry)) (firstIn r)) ⌝ }
+    ensures ceiling { λ r. ⌜ (r .refusal ≡ 0 → FirstUnderCeiling (length (wordOf pattern)) (length (now (text .entry))) (firstIn r)) ⌝ }
+    ensures zeros { λ r. ⌜ (r .refusal ≡ 0 → FirstCoversNoZero (length (wordOf pattern)) (now (text .entry)) (firstIn r)) ⌝ }
+    ensures plain { λ r. ⌜ (pattern .classes ≡ identity → r ≡ carriedFirst (plainFirstBy pattern (now (text .entry)))) ⌝ }
+{
+    carry_first(first::find_first(pattern, text))
 }
 
 // The charge of a count of comparisons: its started thousands.

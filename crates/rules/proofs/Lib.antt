@@ -9,6 +9,7 @@ pub mod Known
 pub mod Ceiling
 pub mod ColussiMethod
 pub mod KmpMethod
+pub mod Uncapped
 pub mod SamePositions
 pub mod Columns
 pub mod Passing

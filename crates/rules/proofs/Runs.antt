@@ -132,6 +132,20 @@ module _ (plan : Plan) (source : Source) (moving : Moving plan) (cap size : ℕ)
     larger-visits = search-keeps plan source moving cap size Both (λ e s. Visits plan source cap' size' s) both-turn
         (record { capped = omega arith; room = omega arith }, unfold search in refl)
 
+  -- A run that is not spent is the same with a larger cap.
+  pub larger-cap : (cap' : ℕ) → cap ≤ cap' → ((b : ℕ) → search plan source cap size .ending ≡ Spent b → ⊥)
+      → search plan source cap' size ≡ search plan source cap size
+  larger-cap cap' l unspent =
+      at (search plan source cap size .ending) (search plan source cap size .last) (search-ends plan source cap size moving) unspent
+      (larger-visits cap' size l (omega arith))
+    where
+      at : (e : Ending) (s : State) → EndsAt plan source cap size e s → ((b : ℕ) → e ≡ Spent b → ⊥) → Visits plan source cap' size s
+          → search plan source cap' size ≡ record { ending = e; last = s }
+      at Done s E n v = sym v ∙ rest-ends plan source moving cap' size s Done (turn-done plan source cap' size s (E .past))
+      at (Spent b) s E n v = absurd (n b refl)
+      at (Full b) s E n v = sym v ∙ rest-ends plan source moving cap' size s (Full b)
+          (turn-full plan source cap' size s (E .fits) (E .established) (omega (arith, E .full)) ∙ ap (λ x. stop (Full x)) (E .window))
+
   -- How a run ended, against one that differs in a larger list: alike, unless its list was full; the larger lists the window and goes on.
   abbrev pub UntilFull : ℕ → Ending → State → Type 0
   UntilFull size' Done s = search plan source cap size' ≡ record { ending = Done; last = s }

@@ -10,11 +10,12 @@ use Rattle.words.proofs.Listing.{length-ascending}
 use Rattle.rules.specs.Occurs.{occurs, occurrences-below}
 use Rattle.rules.specs.Colussi.{colussi}
 use Rattle.rules.specs.Kmp.{kmp}
-use Rattle.rules.specs.Promise.{accounted, CutOff, Ceiling}
+use Rattle.rules.specs.Promise.{accounted, CutOff}
 use Rattle.rules.specs.declared.Ending.{Ending}
 use Rattle.rules.specs.declared.Ending.the-variants.{Done, Spent, Full}
-use Rattle.rules.proofs.ColussiMethod.{colussi-finds, colussi-ceiling}
+use Rattle.rules.proofs.ColussiMethod.{colussi-finds}
 use Rattle.rules.proofs.KmpMethod.{kmp-finds}
+use Rattle.rules.proofs.Uncapped.{never-spent}
 
 -- Whatever the caps and the lists' sizes are.
 pub same-positions : (w t : List ℕ) → 1 ≤ length w → (cap size cap' size' : ℕ)
@@ -32,10 +33,10 @@ few-below w t b = omega (arith, length-ascending (occurs w t) b, count-le b (occ
 pub runs-to-its-end : (w t : List ℕ) → 1 ≤ length w → (cap size : ℕ) → 2 * length t ≤ cap → length t ≤ size → colussi w t cap size .ending ≡ Done
 runs-to-its-end w t some cap size high long =
     at (colussi w t cap size .ending) (length (colussi w t cap size .last .made)) (colussi w t cap size .last .found)
-    (colussi-finds w t some cap size .exactly) (colussi-finds w t some cap size .cut-off) (colussi-ceiling w t some cap size)
+    (colussi-finds w t some cap size .exactly) (colussi-finds w t some cap size .cut-off) (never-spent w t some cap size high)
   where
     at : (e : Ending) (c : ℕ) (found : List ℕ) → found ≡ accounted w t e → CutOff colussi w t cap size e c (length found)
-        → Ceiling (length w) (length t) e c → e ≡ Done
-    at Done c found F C L = refl
-    at (Spent b) c found F C L = absurd (omega (arith, C .0, C .2))
-    at (Full b) c found F C L = absurd (omega (arith, C .0 .inside, C .2, ap length F, few-below w t b))
+        → ((b : ℕ) → e ≡ Spent b → ⊥) → e ≡ Done
+    at Done c found F C n = refl
+    at (Spent b) c found F C n = absurd (n b refl)
+    at (Full b) c found F C n = absurd (omega (arith, C .0 .inside, C .2, ap length F, few-below w t b))

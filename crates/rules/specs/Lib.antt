@@ -2,6 +2,7 @@
 pub mod Occurs
 pub mod Rules
 pub mod Colussi
+pub mod Stopped
 pub mod Kmp
 pub mod Columns
 pub mod Report

@@ -158,6 +158,10 @@ unfoldable pub search : Plan → Source → ℕ → ℕ → End
 unfolding rest
 search plan source cap size = rest plan source cap size start
 
+-- The largest cap, 2^64 - 1.
+abbrev pub noCap : ℕ
+noCap = 18446744073709551615
+
 -- A search by some order: of a pattern's letters, a text, a cap and a list of a size.
 abbrev pub Search : Type 0
 Search = List ℕ → List ℕ → ℕ → ℕ → End

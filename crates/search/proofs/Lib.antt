@@ -3,6 +3,8 @@ pub mod Classes
 pub mod LentTables
 pub mod RankZero
 pub mod ColussiScan
+pub mod FirstScan
 pub mod KmpScan
 pub mod Answers
+pub mod Stops
 pub mod Promises

@@ -71,12 +71,22 @@ occurrence-covers-no-zero p t b G O =
     let F = fields-of p G in
     covers-no-zero (p .classes) (ownBytes p) t b (F .usable) (F .no-zero) O
 
-module _ (p : Pattern) (t : List ℕ) (cap : ℕ) (lent : List ℕ) where
+module _ (p : Pattern) (t : List ℕ) where
   -- A pattern that is let in has a letter.
-  some : IsAdmitted p (length t) → 1 ≤ length (wordOf p)
-  some I = let F = fields-of p (I .prepared) in omega (arith, F .some, F .word)
+  pub some-letter : IsAdmitted p (length t) → 1 ≤ length (wordOf p)
+  some-letter I = let F = fields-of p (I .prepared) in omega (arith, F .some, F .word)
 
-  -- So no occurrence that a search lists covers one.
+  -- Where it occurs, in terms of bytes.
+  pub bytes-occur : (x : ℕ) → Occurs (wordOf p) (textOf p t) x → OccursBy (p .classes) (ownBytes p) t x
+  unfolding wordOf textOf
+  bytes-occur x O = occurs-by (p .classes) (ownBytes p) t x O
+
+  pub letters-occur : (x : ℕ) → OccursBy (p .classes) (ownBytes p) t x → Occurs (wordOf p) (textOf p t) x
+  unfolding wordOf textOf
+  letters-occur x O = occurs-through (p .classes) (ownBytes p) t x O
+
+module _ (p : Pattern) (t : List ℕ) (cap : ℕ) (lent : List ℕ) where
+  -- No occurrence that a search lists covers a 0.
   no-zero-covered : (search : Search) → IsAdmitted p (length t) → Finds search (wordOf p) (textOf p t) cap (length lent)
       → NoZeroCovered (length (wordOf p)) t (filled (search (wordOf p) (textOf p t) cap (length lent)) lent)
       (reportOf (wordOf p) (search (wordOf p) (textOf p t) cap (length lent)))
@@ -86,14 +96,6 @@ module _ (p : Pattern) (t : List ℕ) (cap : ℕ) (lent : List ℕ) where
       rw (List·getD-append found (drop (length found) lent) 0 i l) (occurrence-covers-no-zero p t (getD found i 0) (I .prepared) (F .lists .occur i l))
 
   -- What it lists, in terms of bytes.
-  bytes-occur : (x : ℕ) → Occurs (wordOf p) (textOf p t) x → OccursBy (p .classes) (ownBytes p) t x
-  unfolding wordOf textOf
-  bytes-occur x O = occurs-by (p .classes) (ownBytes p) t x O
-
-  letters-occur : (x : ℕ) → OccursBy (p .classes) (ownBytes p) t x → Occurs (wordOf p) (textOf p t) x
-  unfolding wordOf textOf
-  letters-occur x O = occurs-through (p .classes) (ownBytes p) t x O
-
   listed-by : (search : Search) → Finds search (wordOf p) (textOf p t) cap (length lent)
       → ListedBy (p .classes) (ownBytes p) t (filled (search (wordOf p) (textOf p t) cap (length lent)) lent)
       (reportOf (wordOf p) (search (wordOf p) (textOf p t) cap (length lent)))
@@ -103,9 +105,9 @@ module _ (p : Pattern) (t : List ℕ) (cap : ℕ) (lent : List ℕ) where
       let at : (i : ℕ) → i < length found → getD (found ++ drop (length found) lent) i 0 ≡ getD found i 0 =
       λ i l. List·getD-append found (drop (length found) lent) 0 i l in
       record {
-        occur = λ i l. rw (at i l) (bytes-occur (getD found i 0) (F .lists .occur i l));
+        occur = λ i l. rw (at i l) (bytes-occur p t (getD found i 0) (F .lists .occur i l));
         all = λ x h O.
-            let one = F .lists .all x h (letters-occur x O) in
+            let one = F .lists .all x h (letters-occur p t x O) in
             (one .0, one .1, at (one .0) (one .1) ∙ one .2);
       }
 
@@ -122,19 +124,19 @@ module _ (p : Pattern) (t : List ℕ) (cap : ℕ) (lent : List ℕ) where
       A .list,
       (
         promised colussi p t cap lent (Located colussi (wordOf p) (textOf p t) cap)
-            (λ I. located colussi (wordOf p) (textOf p t) cap lent (colussi-finds (wordOf p) (textOf p t) (some I) cap (length lent))) A,
+            (λ I. located colussi (wordOf p) (textOf p t) cap lent (colussi-finds (wordOf p) (textOf p t) (some-letter p t I) cap (length lent))) A,
         (
           promised colussi p t cap lent (ListedBy (p .classes) (ownBytes p) t)
-              (λ I. listed-by colussi (colussi-finds (wordOf p) (textOf p t) (some I) cap (length lent))) A,
+              (λ I. listed-by colussi (colussi-finds (wordOf p) (textOf p t) (some-letter p t I) cap (length lent))) A,
           (
             promised colussi p t cap lent (λ after r. Columns (wordOf p) (colussi (wordOf p) (textOf p t) cap (length lent) .last .made) r)
                 (λ I. in-columns (wordOf p) (colussi (wordOf p) (textOf p t) cap (length lent))) A,
             (
               promised colussi p t cap lent (λ after r. UnderCeiling (length (wordOf p)) (length t) r)
-                  (λ I. unfold reportOf in rw (length-text p t) at (colussi-ceiling (wordOf p) (textOf p t) (some I) cap (length lent))) A,
+                  (λ I. unfold reportOf in rw (length-text p t) at (colussi-ceiling (wordOf p) (textOf p t) (some-letter p t I) cap (length lent))) A,
               (
                 promised colussi p t cap lent (NoZeroCovered (length (wordOf p)) t)
-                    (λ I. no-zero-covered colussi I (colussi-finds (wordOf p) (textOf p t) (some I) cap (length lent))) A,
+                    (λ I. no-zero-covered colussi I (colussi-finds (wordOf p) (textOf p t) (some-letter p t I) cap (length lent))) A,
                 λ e. plain colussi p t cap lent e A,
               ),
             ),
@@ -158,23 +160,23 @@ module _ (p : Pattern) (t : List ℕ) (cap : ℕ) (lent : List ℕ) where
       A .list,
       (
         promised kmp p t cap lent (Located kmp (wordOf p) (textOf p t) cap)
-            (λ I. located kmp (wordOf p) (textOf p t) cap lent (kmp-finds (wordOf p) (textOf p t) (some I) cap (length lent))) A,
+            (λ I. located kmp (wordOf p) (textOf p t) cap lent (kmp-finds (wordOf p) (textOf p t) (some-letter p t I) cap (length lent))) A,
         (
           promised kmp p t cap lent (ListedBy (p .classes) (ownBytes p) t)
-              (λ I. listed-by kmp (kmp-finds (wordOf p) (textOf p t) (some I) cap (length lent))) A,
+              (λ I. listed-by kmp (kmp-finds (wordOf p) (textOf p t) (some-letter p t I) cap (length lent))) A,
           (
             promised kmp p t cap lent (λ after r. Columns (wordOf p) (kmp (wordOf p) (textOf p t) cap (length lent) .last .made) r)
                 (λ I. in-columns (wordOf p) (kmp (wordOf p) (textOf p t) cap (length lent))) A,
             (
               promised kmp p t cap lent (λ after r. UnderKmpCeiling (length (wordOf p)) (length t) r)
-                  (λ I. unfold reportOf in rw (length-text p t) at (kmp-ceiling (wordOf p) (textOf p t) (some I) cap (length lent))) A,
+                  (λ I. unfold reportOf in rw (length-text p t) at (kmp-ceiling (wordOf p) (textOf p t) (some-letter p t I) cap (length lent))) A,
               (
                 promised kmp p t cap lent (AsColussi (wordOf p) (textOf p t))
                     (λ I done cap' size' done'. begins-with-found (wordOf p) (kmp (wordOf p) (textOf p t) cap (length lent)) lent
-                    ∙ sym (same-positions (wordOf p) (textOf p t) (some I) cap' size' cap (length lent) done' (unfold reportOf in done))) A,
+                    ∙ sym (same-positions (wordOf p) (textOf p t) (some-letter p t I) cap' size' cap (length lent) done' (unfold reportOf in done))) A,
                 (
                   promised kmp p t cap lent (NoZeroCovered (length (wordOf p)) t)
-                      (λ I. no-zero-covered kmp I (kmp-finds (wordOf p) (textOf p t) (some I) cap (length lent))) A,
+                      (λ I. no-zero-covered kmp I (kmp-finds (wordOf p) (textOf p t) (some-letter p t I) cap (length lent))) A,
                   λ e. plain kmp p t cap lent e A,
                 ),
               ),

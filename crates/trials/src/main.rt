@@ -12,6 +12,7 @@ use libc::STDOUT_FILENO;
 use pattern::LONGEST_PATTERN;
 use pattern::Pattern;
 use preparation::SCRATCH;
+use rules::NO_CAP;
 use search::Ending;
 use search::SearchAnswer;
 use std::num::wrapping_add_u64;
@@ -24,8 +25,6 @@ const CASES: u64 = 4000;
 const COLUSSI: bool = false;
 
 const KMP: bool = true;
-
-const NO_CAP: u64 = 18446744073709551615;
 
 fn say(words: &[u8], n: u64) {
     io::write_all(STDOUT_FILENO, words);

@@ -5,8 +5,8 @@
 pub mod classes;
 pub mod worked;
 
-use crate::oracle::{self, Tables, CLASSES};
-use poqewan::{Ending, Pattern, Preparation, Refusal, Report, SCRATCH};
+use crate::oracle::{self, Listed, Tables, CLASSES};
+use poqewan::{Ending, First, Pattern, Preparation, Refusal, Report, SCRATCH};
 
 /// What lists hold before a search. No text is long enough to have such a position.
 pub const UNWRITTEN: u32 = 0xA5A5_A5A5;
@@ -42,19 +42,19 @@ impl Method {
         text: &[u8],
         cap: u64,
         list_len: usize,
-        positions: &mut Vec<u32>,
+        listed: &mut Listed,
     ) -> Report {
         match self {
-            Self::Colussi => oracle::search_by_rules(tables, text, cap, list_len, positions),
-            Self::Kmp => oracle::kmp_by_rules(tables, text, cap, list_len, positions),
+            Self::Colussi => oracle::search_by_rules(tables, text, cap, list_len, listed),
+            Self::Kmp => oracle::kmp_by_rules(tables, text, cap, list_len, listed),
         }
     }
 
-    /// Whether a report's count keeps to the ceiling, for m pattern bytes and n text bytes.
-    fn keeps_its_ceiling(self, m: usize, n: usize, report: &Report) -> bool {
+    /// Whether the count of a search that ended so keeps to the ceiling, for m pattern bytes and n
+    /// text bytes.
+    fn keeps_its_ceiling(self, m: usize, n: usize, ending: Ending, count: u64) -> bool {
         let [m, n] = [m, n].map(|length| length as u64);
-        let count = report.count;
-        match (self, report.ending) {
+        match (self, ending) {
             (_, Ending::Done) if n < m => count == 0,
             (Self::Colussi, Ending::Done) => 2 * count <= 3 * n - m,
             (Self::Kmp, Ending::Done) => count <= 2 * n - m,
@@ -71,7 +71,7 @@ pub struct Trial {
     tables: Tables,
     pattern: Pattern,
     list: Vec<u32>,
-    by_rules: Vec<u32>,
+    by_rules: Listed,
 }
 
 impl Trial {
@@ -94,7 +94,7 @@ impl Trial {
             tables,
             pattern,
             list: Vec::new(),
-            by_rules: Vec::new(),
+            by_rules: Listed::default(),
         }
     }
 
@@ -109,10 +109,15 @@ impl Trial {
         reports
     }
 
-    /// Runs both searches and checks all that is promised of them.
+    /// Runs both searches and checks all that is promised of them. Where Colussi's is run to its
+    /// end, the answer for the first position is checked too.
     pub fn check(&mut self, text: &[u8], cap: u64, list_len: usize) -> [Report; 2] {
-        let occurrences = oracle::occurrences(&self.tables.bytes, &self.tables.classes, text);
+        let occurrences = self.occurrences(text);
         Method::BOTH.map(|method| self.check_one(method, text, cap, list_len, &occurrences))
+    }
+
+    fn occurrences(&self, text: &[u8]) -> Vec<u32> {
+        oracle::occurrences(&self.tables.bytes, &self.tables.classes, text)
     }
 
     fn check_one(
@@ -129,7 +134,10 @@ impl Trial {
         let expected = method.by_rules(&self.tables, text, cap, list_len, &mut self.by_rules);
 
         let bytes = &self.tables.bytes;
-        let case = || case(method, &self.tables, text, cap, list_len);
+        let case = || {
+            let case = case(&self.tables, text);
+            format!("{method:?}, cap {cap}, list of {list_len}, {case}")
+        };
         assert!(
             answer == Ok(expected),
             "{}: {answer:?}, by the rules {expected:?}",
@@ -142,7 +150,7 @@ impl Trial {
         );
         let (positions, rest) = self.list.split_at(expected.written);
         assert!(
-            positions == self.by_rules,
+            positions == self.by_rules.positions,
             "{}: positions are not those by the rules",
             case()
         );
@@ -164,12 +172,64 @@ impl Trial {
             case()
         );
         assert!(
-            method.keeps_its_ceiling(bytes.len(), text.len(), &expected),
+            method.keeps_its_ceiling(bytes.len(), text.len(), expected.ending, expected.count),
             "{}: count {} is above the ceiling",
             case(),
             expected.count
         );
+        if (method, expected.ending) == (Method::Colussi, Ending::Done) {
+            self.check_first_of(text, &expected, occurrences);
+        }
         expected
+    }
+
+    /// Asks for the first position, and checks all that is promised of the answer.
+    pub fn check_first(&mut self, text: &[u8]) -> First {
+        let full =
+            Method::Colussi.by_rules(&self.tables, text, u64::MAX, usize::MAX, &mut self.by_rules);
+        self.check_first_of(text, &full, &self.occurrences(text))
+    }
+
+    /// The same, where the rules have just given this report of the full search, and its list.
+    fn check_first_of(&self, text: &[u8], full: &Report, occurrences: &[u32]) -> First {
+        let answer = poqewan::find_first(&self.pattern, text);
+        let expected = oracle::first(full, &self.by_rules);
+
+        let m = self.tables.bytes.len();
+        let case = || format!("the first position, {}", case(&self.tables, text));
+        assert!(
+            answer == Ok(expected),
+            "{}: {answer:?}, by the rules {expected:?}",
+            case()
+        );
+        let (ending, count) = ended(expected);
+        match (ending, occurrences.first()) {
+            (Ending::Done, None) => (),
+            (Ending::Full(window), Some(&b)) if window == b as usize => assert!(
+                covers_no_zero(text, b, m),
+                "{}: the occurrence covers a byte 0",
+                case()
+            ),
+            (_, b) => panic!(
+                "{}: {expected:?}, and the first occurrence is {b:?}",
+                case()
+            ),
+        }
+        assert!(
+            Method::Colussi.keeps_its_ceiling(m, text.len(), ending, count),
+            "{}: count {count} is above the ceiling",
+            case()
+        );
+        expected
+    }
+}
+
+/// How a search that looks for the first position ended, and its count: found, it is cut off there;
+/// absent, it is run to its end.
+pub fn ended(first: First) -> (Ending, u64) {
+    match first {
+        First::At { position, count } => (Ending::Full(position), count),
+        First::Absent { count } => (Ending::Done, count),
     }
 }
 
@@ -191,10 +251,10 @@ fn covers_no_zero(text: &[u8], b: u32, m: usize) -> bool {
 
 /// Names a case in a message; only the start of a long text is shown, and the classes only where
 /// they are not the identity.
-fn case(method: Method, tables: &Tables, text: &[u8], cap: u64, list_len: usize) -> String {
+fn case(tables: &Tables, text: &[u8]) -> String {
     let classes = Some(tables.classes).filter(|&classes| classes != oracle::identity());
     format!(
-        "{method:?}, \"{}\" in \"{}\" ({} bytes), cap {cap}, list of {list_len}, classes {classes:?}",
+        "\"{}\" in \"{}\" ({} bytes), classes {classes:?}",
         tables.bytes.escape_ascii(),
         text[..text.len().min(100)].escape_ascii(),
         text.len()
@@ -238,7 +298,7 @@ pub fn check_preparation(bytes: &[u8], classes: &[u8], scratch_len: usize) -> Op
     refusal
 }
 
-/// Both searches must do as the oracle says of this value: refuse it, or search with it. Gives
+/// All searches must do as the oracle says of this value: refuse it, or search with it. Gives
 /// whether it is true.
 pub fn check_value(value: &Pattern) -> bool {
     match oracle::tables_if_true(value) {
@@ -255,8 +315,10 @@ pub fn check_value(value: &Pattern) -> bool {
     }
 }
 
-/// Both searches must refuse so and leave the list as it is.
+/// All searches must refuse so and leave the list as it is.
 pub fn assert_refused(pattern: &Pattern, text: &[u8], why: Refusal) {
+    let answer = poqewan::find_first(pattern, text);
+    assert_eq!(answer, Err(why), "the first position of {pattern:?}");
     for method in Method::BOTH {
         let mut list = [UNWRITTEN; 8];
         let answer = method.run(pattern, text, u64::MAX, &mut list);
@@ -277,6 +339,13 @@ pub fn words(letters: &[u8], len: usize) -> Vec<Vec<u8>> {
             })
             .collect()
     })
+}
+
+/// All words from one length to another.
+pub fn words_of_lengths(letters: &[u8], shortest: usize, longest: usize) -> Vec<Vec<u8>> {
+    (shortest..=longest)
+        .flat_map(|len| words(letters, len))
+        .collect()
 }
 
 /// A word's first `len` bytes, with the word repeated as far as needed.

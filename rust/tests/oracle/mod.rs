@@ -4,7 +4,7 @@
 
 #![allow(dead_code)] // Each test file uses a part of it.
 
-use poqewan::{Ending, Pattern, Refusal, Report};
+use poqewan::{Ending, First, Pattern, Refusal, Report};
 
 /// The longest pattern, as document 01 has it.
 pub const LONGEST_PATTERN: usize = 256;
@@ -303,16 +303,55 @@ impl Columns {
     }
 }
 
-/// Document 01's search, rule by rule, with a list of `list_len` entries. The positions are given
-/// in `positions`, whatever it held before.
+/// What a search lists.
+#[derive(Default)]
+pub struct Listed {
+    pub positions: Vec<u32>,
+    /// The count at the moment when the first position was listed.
+    count_at_first: u64,
+}
+
+impl Listed {
+    fn clear(&mut self) {
+        self.positions.clear();
+    }
+
+    fn len(&self) -> usize {
+        self.positions.len()
+    }
+
+    /// The pattern occurs at b, after so many comparisons.
+    fn push(&mut self, b: usize, count: u64) {
+        if self.positions.is_empty() {
+            self.count_at_first = count;
+        }
+        self.positions.push(position(b));
+    }
+}
+
+/// Request C-12: the first entry of the full search's list, or absent exactly where that list is
+/// empty; the count is the full search's at that moment, for absent at its end.
+pub fn first(full: &Report, listed: &Listed) -> First {
+    assert_eq!(full.ending, Ending::Done, "the search was cut off");
+    match listed.positions.first() {
+        Some(&b) => First::At {
+            position: b as usize,
+            count: listed.count_at_first,
+        },
+        None => First::Absent { count: full.count },
+    }
+}
+
+/// Document 01's search, rule by rule, with a list of `list_len` entries. What it lists is given in
+/// `listed`, whatever that held before.
 pub fn search_by_rules(
     tables: &Tables,
     text: &[u8],
     cap: u64,
     list_len: usize,
-    positions: &mut Vec<u32>,
+    listed: &mut Listed,
 ) -> Report {
-    positions.clear();
+    listed.clear();
     let m = tables.bytes.len();
     // Window b, rank i, known edge e, count c.
     let (mut b, mut i, mut e, mut c) = (0, 0, 0, 0);
@@ -320,15 +359,15 @@ pub fn search_by_rules(
     while b + m <= text.len() {
         let rank = if i == m || b + tables.order[i] < e {
             // Rule 1: the pattern occurs at b, and the window is left with rank m.
-            if positions.len() == list_len {
-                return report(Ending::Full(b), c, &columns, positions);
+            if listed.len() == list_len {
+                return report(Ending::Full(b), c, &columns, listed);
             }
-            positions.push(position(b));
+            listed.push(b, c);
             m
         } else {
             // Rule 2: a comparison is due. Unequal, the window is left with rank i.
             if c == cap {
-                return report(Ending::Spent(b), c, &columns, positions);
+                return report(Ending::Spent(b), c, &columns, listed);
             }
             let p = tables.order[i];
             c += 1;
@@ -346,7 +385,7 @@ pub fn search_by_rules(
         b += tables.shift[rank];
         i = tables.next[rank];
     }
-    report(Ending::Done, c, &columns, positions)
+    report(Ending::Done, c, &columns, listed)
 }
 
 /// Document 01's search by Knuth, Morris and Pratt, as [`search_by_rules`].
@@ -355,9 +394,9 @@ pub fn kmp_by_rules(
     text: &[u8],
     cap: u64,
     list_len: usize,
-    positions: &mut Vec<u32>,
+    listed: &mut Listed,
 ) -> Report {
-    positions.clear();
+    listed.clear();
     let m = tables.bytes.len();
     // Window b, matched length i, count c.
     let (mut b, mut i, mut c) = (0, 0, 0);
@@ -365,15 +404,15 @@ pub fn kmp_by_rules(
     while b + m <= text.len() {
         let shift = if i == m {
             // The pattern occurs at b.
-            if positions.len() == list_len {
-                return report(Ending::Full(b), c, &columns, positions);
+            if listed.len() == list_len {
+                return report(Ending::Full(b), c, &columns, listed);
             }
-            positions.push(position(b));
+            listed.push(b, c);
             tables.rmin[0]
         } else {
             // A comparison is due.
             if c == cap {
-                return report(Ending::Spent(b), c, &columns, positions);
+                return report(Ending::Spent(b), c, &columns, listed);
             }
             c += 1;
             columns.compared(tables, i);
@@ -387,15 +426,15 @@ pub fn kmp_by_rules(
         b += shift;
         i = i.saturating_sub(shift);
     }
-    report(Ending::Done, c, &columns, positions)
+    report(Ending::Done, c, &columns, listed)
 }
 
-fn report(ending: Ending, count: u64, columns: &Columns, positions: &[u32]) -> Report {
+fn report(ending: Ending, count: u64, columns: &Columns, listed: &Listed) -> Report {
     Report {
         ending,
         count,
         at_noholes: columns.at_noholes,
         at_holes: columns.at_holes,
-        written: positions.len(),
+        written: listed.len(),
     }
 }

@@ -7,11 +7,11 @@ use lib.ListN.{replicate}
 use borrow.Author.Needs.{needs}
 use Rattle.intake.specs.Sizes.{scratchSize}
 use Rattle.preparation.specs.Prepared.{prepared}
-use Rattle.rules.specs.Rules.{End}
+use Rattle.rules.specs.Rules.{End, noCap}
 use Rattle.rules.specs.Colussi.{colussi}
 use Rattle.rules.specs.Report.{reportOf, filled}
 use Rattle.search.specs.declared.SearchAnswer.the-variants.{Ran}
-use Rattle.job.specs.Limits.{listSize, noCap}
+use Rattle.job.specs.Limits.{listSize}
 use Rattle.job.proofs.Searching.{Found, found, not-refused, lines-of-found, prepared-runs}
 use Rattle.job.proofs.searched.Statement.{statement}
 use Rattle.job.proofs.searched.Tie as tie
