@@ -64,7 +64,7 @@ static void add_trials(void)
 {
     static const struct work uncounted = {"uncounted", run_uncounted, NULL}, pieces = {"pieces", run_pieces, NULL},
                              loop = {"loop", run_loop, NULL};
-    const struct share few = {32, 1, 1, thread_time}, more = {16, 1, 1, thread_time}; /* the sizes share the place of the code */
+    const struct share few = {32, 1, 1, thread_time, 0}, more = {16, 1, 1, thread_time, 0}; /* the sizes share the place of the code */
     for (struct row *row = rows; row < rows + SHORT_TEXTS; row++)
         add_trial(row, &uncounted, row->input.kind->classes == identity ? UNCOUNTED_SEARCHES : UNCOUNTED_WITH_CLASSES, few);
     for (size_t k = 0; k < COUNT_OF(kinds); k++)

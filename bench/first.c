@@ -66,8 +66,9 @@ void set_first_rows(void)
 {
     static const struct work scan = {"scan", run_first, NULL}, call = {"call", run_first, NULL};
     static const struct work against_c = {"against C", run_against_c, read_prepared};
-    static const struct share of_sizes[] = {{2, 2, COPIES, wall_time}, {4, 2, COPIES, thread_time}};
-    static const struct share of_calls = {4, 3, COPIES, wall_time}, few = {8, 1, COPIES, wall_time};
+    static const struct share of_sizes[] = {{2, 2, COPIES, wall_time, 0}, {4, 2, COPIES, thread_time, 0}};
+    static const struct share of_calls = {4, 4, COPIES, wall_time, 31}; /* each turn of a copy at another place of the stack */
+    static const struct share few = {8, 1, COPIES, wall_time, 0};
     struct row *row = first_rows;
     for (const struct row *like = rows; like < rows + SCANS; like++) {
         set_row(row, like, &scan, of_sizes[like->input.size - sizes]);

@@ -149,7 +149,7 @@ void add_trial(struct row *row, const struct work *work, int variants, struct sh
 static void set_text_row(struct row *row, size_t kind, size_t size, size_t m)
 {
     static const struct share shares[COUNT_OF(sizes)] = {
-        {1, 2, COPIES, wall_time}, {1, 1, COPIES, thread_time}, {8, 1, COPIES / 2, thread_time}};
+        {1, 2, COPIES, wall_time, 0}, {1, 1, COPIES, thread_time, 0}, {8, 1, COPIES / 2, thread_time, 0}};
     row->input = (struct input){.kind = &kinds[kind], .size = &sizes[size], .m = m, .number = m};
     if (kinds[kind].classes != identity && !(versions[OURS][0]->has_classes && versions[OTHER][0]->has_classes))
         return;
@@ -159,7 +159,7 @@ static void set_text_row(struct row *row, size_t kind, size_t size, size_t m)
 
 static void set_patterns_row(struct row *row, size_t family, size_t m)
 {
-    static const struct share share = {4, 3, COPIES, wall_time};
+    static const struct share share = {4, 3, COPIES, wall_time, 0};
     const int sides = versions[OTHER][0]->prepare != NULL ? SIDES : 1;
     row->input = (struct input){.family = &families[family], .m = m};
     add_trial(row, &preparation, sides, share);

@@ -22,9 +22,10 @@ double thread_time(void)
     return seconds_by(CLOCK_THREAD_CPUTIME_ID);
 }
 
-static double time_of(const struct trial *trial, int variant, int copy)
+static double time_of(const struct trial *trial, int variant, int copy, size_t turn)
 {
-    volatile char lower[16 + copy * LOWER_STACK];
+    const size_t places = trial->share.more_stacks + 1;
+    volatile char lower[16 + (size_t)copy * LOWER_STACK + turn % places * STACK_STEP];
     lower[0] = 0;
     (void)lower[0];
     if (trial->work->before != NULL)
@@ -36,11 +37,11 @@ static double time_of(const struct trial *trial, int variant, int copy)
 
 static void take_turn(struct trial *trial, int copy, int first)
 {
+    const size_t turn = trial->turns[copy]++;
     for (int i = 0; i < trial->variants; i++) {
         const int variant = (first + i) % trial->variants;
-        trial->seconds[variant][copy][trial->turns[copy]] = time_of(trial, variant, copy);
+        trial->seconds[variant][copy][turn] = time_of(trial, variant, copy, turn);
     }
-    trial->turns[copy]++;
 }
 
 bool has_round(const struct trial *trial, int round)

@@ -17,6 +17,12 @@
    copies meet every place in a line, and places all over a page. */
 #define LOWER_STACK 528
 
+/* A call that takes a tenth of a microsecond, and copies some thousands of bytes on the stack meanwhile, is decided by its place to
+   some per cent: two that differ only in the size of their frames are apart by as much, one way in one run of the program and the
+   other way in the next, for the system places the stack anew. So trials of such calls may ask for more places a copy, these bytes
+   apart, one for each turn in turn. */
+#define STACK_STEP 16
+
 /* What is done by the variants that take turns; and what comes before each run, out of the time, if anything does. */
 struct work {
     const char *name;
@@ -30,6 +36,7 @@ struct work {
 struct share {
     int every, turns, copies;
     double (*clock)(void);
+    size_t more_stacks; /* places of the stack beside the copy's own */
 };
 
 #define ROUNDS 256    /* a power of two, as all of a share but the turns, so that every copy has as many */
