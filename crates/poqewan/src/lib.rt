@@ -1,15 +1,17 @@
 // What C and Rust may call: the proved functions over numbers, slices and structs of a fixed layout. No function has a precondition, so
 // nothing is asked of a caller but what C asks of pointers.
-use first::FirstAnswer;
+use carried::First;
+use carried::Preparation;
+use carried::SearchReport;
+use carried::carry;
+use carried::carry_first;
+use carried::outcome_number;
 use pattern::Pattern;
-use preparation::Outcome;
-use rules::Ending;
-use rules::Report;
-use search::SearchAnswer;
 ghost use mathlib.Core.Path.{_≡_};
 ghost use mathlib.Core.Logic.{_↔_};
 ghost use Prim.Native.Nat.{_+_, _*_, _≤_, _<_};
 ghost use lib.ListN.{length};
+ghost use Rattle.carried.specs.Carried.{carriedPreparation, carried, reportIn, carriedFirst, firstIn};
 ghost use Rattle.charge.specs.Charged.{charged};
 ghost use Rattle.classes.specs.Classes.{identity, identityIn};
 ghost use Rattle.first.specs.Answer.{firstBy, plainFirstBy};
@@ -24,123 +26,6 @@ ghost use Rattle.rules.specs.Kmp.{kmp};
 ghost use Rattle.rules.specs.Report.{Columns};
 ghost use Rattle.search.specs.Answer.{answerBy, listBy, plainAnswerBy, plainListBy};
 ghost use Rattle.search.specs.Promise.{Located, ListedBy, UnderCeiling, UnderKmpCeiling, AsColussi, NoZeroCovered};
-ghost use Rattle.poqewan.specs.Carried.{outcomeNumber, carriedPreparation, endingNumber, endingWindow, carriedReport, carried, reportIn, carriedFirst, firstIn};
-
-// The number of a refusal, and then all else is 0; or 0, how many pairs of the pattern's letters were compared to build hmax, and the pattern.
-#[repr(C)]
-pub struct Preparation {
-    pub refusal: u32,
-    pub compared: u32,
-    pub pattern: Pattern,
-}
-
-// The number of a refusal, and then all else is 0; or 0 and the report of a search. Its ending is 0 for done, 1 for spent and 2 for full,
-// at a window, which is 0 for done. The columns are at_noholes and at_holes in C and Rust.
-#[repr(C)]
-pub struct SearchReport {
-    pub refusal: u32,
-    pub ending: u32,
-    pub window: usize,
-    pub count: u64,
-    pub noholes: u64,
-    pub holes: u64,
-    pub written: usize,
-}
-
-// The number of a refusal, and then all else is 0; or 0, whether the pattern occurs, as 1 or 0, where it occurs first, or 0, and the count.
-#[repr(C)]
-pub struct First {
-    pub refusal: u32,
-    pub found: u32,
-    pub position: usize,
-    pub count: u64,
-}
-
-// The number of a refusal, or 0.
-fn outcome_number(outcome: Outcome) -> u32
-    ensures { λ r. ⌜ r ≡ outcomeNumber outcome ⌝ }
-{
-    match outcome {
-        Outcome::Ready => 0,
-        Outcome::Refused(why) => why.number() as u32,
-    }
-}
-
-fn ending_number(ending: Ending) -> u32
-    ensures { λ r. ⌜ r ≡ endingNumber ending ⌝ }
-{
-    match ending {
-        Ending::Done => 0,
-        Ending::Spent(_) => 1,
-        Ending::Full(_) => 2,
-    }
-}
-
-fn ending_window(ending: Ending) -> usize
-    ensures { λ r. ⌜ r ≡ endingWindow ending ⌝ }
-{
-    match ending {
-        Ending::Done => 0,
-        Ending::Spent(window) | Ending::Full(window) => window,
-    }
-}
-
-fn carry_report(report: Report) -> SearchReport
-    ensures { λ r. ⌜ r ≡ carriedReport report ⌝ }
-{
-    let ending = report.ending;
-    SearchReport {
-        refusal: 0,
-        ending: ending_number(ending),
-        window: ending_window(ending),
-        count: report.count,
-        noholes: report.noholes,
-        holes: report.holes,
-        written: report.written,
-    }
-}
-
-fn carry(answer: SearchAnswer) -> SearchReport
-    ensures { λ r. ⌜ r ≡ carried answer ⌝ }
-{
-    match answer {
-        SearchAnswer::Ran(report) => carry_report(report),
-        SearchAnswer::Refused(why) => SearchReport {
-            refusal: why.number() as u32,
-            ending: 0,
-            window: 0,
-            count: 0,
-            noholes: 0,
-            holes: 0,
-            written: 0,
-        },
-    }
-}
-
-fn carry_first(answer: FirstAnswer) -> First
-    ensures { λ r. ⌜ r ≡ carriedFirst answer ⌝ }
-{
-    match answer {
-        FirstAnswer::At(position, count) => First {
-            refusal: 0,
-            found: 1,
-            position,
-            count,
-        },
-        FirstAnswer::Absent(count) => First {
-            refusal: 0,
-            found: 0,
-            position: 0,
-            count,
-        },
-        FirstAnswer::Refused(why) => First {
-            refusal: why.number() as u32,
-            found: 0,
-            position: 0,
-            count: 0,
-        },
-    }
-}
 
 // Each entry v becomes v mod 256: of 256 entries, the classes that give each value itself.
 #[no_mangle]

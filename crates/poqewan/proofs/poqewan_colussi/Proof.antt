@@ -1,8 +1,8 @@
 -- `poqewan::poqewan_colussi` meets its contract: what `search::colussi` promises of its answer holds of the answer carried. Assumes nothing.
 use mathlib.Core.Path.{ap, _∙_}
 use borrow.Author.Needs.{needs}
-use Rattle.poqewan.specs.Carried.{carried}
-use Rattle.poqewan.proofs.Carrying.{promised-to-c}
+use Rattle.carried.specs.Carried.{carried}
+use Rattle.carried.proofs.Carrying.{promised-to-c}
 use Rattle.poqewan.proofs.poqewan_colussi.Statement.{statement}
 use Rattle.poqewan.proofs.poqewan_colussi.Tie as tie
 

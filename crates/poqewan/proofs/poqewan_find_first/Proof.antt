@@ -1,8 +1,8 @@
 -- `poqewan::poqewan_find_first` meets its contract: what `first::find_first` promises of its answer holds of the answer carried. Assumes nothing.
 use mathlib.Core.Path.{ap, _∙_}
 use borrow.Author.Needs.{needs}
-use Rattle.poqewan.specs.Carried.{carriedFirst}
-use Rattle.poqewan.proofs.Carrying.{first-back}
+use Rattle.carried.specs.Carried.{carriedFirst}
+use Rattle.carried.proofs.Carrying.{first-back}
 use Rattle.poqewan.proofs.poqewan_find_first.Statement.{statement}
 use Rattle.poqewan.proofs.poqewan_find_first.Tie as tie
 

@@ -3,8 +3,8 @@ use mathlib.Core.Path.{ap}
 use native.Mathlib.Omega.{arith}
 use borrow.Author.Needs.{needs}
 use Rattle.preparation.proofs.Answers.{compared-small}
-use Rattle.poqewan.specs.Carried.{carriedPreparation}
-use Rattle.poqewan.proofs.Carrying.{ready-is-0}
+use Rattle.carried.specs.Carried.{carriedPreparation}
+use Rattle.carried.proofs.Carrying.{ready-is-0}
 use Rattle.poqewan.proofs.poqewan_prepare.Statement.{statement}
 use Rattle.poqewan.proofs.poqewan_prepare.Tie as tie
 

@@ -13,9 +13,9 @@ use Rattle.rules.specs.declared.Report.{Report}
 use Rattle.search.specs.declared.SearchAnswer.{SearchAnswer}
 use Rattle.search.specs.declared.SearchAnswer.the-variants.{Ran}
 use Rattle.search.specs.declared.SearchAnswer.the-variants as answers
-use Rattle.poqewan.specs.declared.Preparation.{Preparation}
-use Rattle.poqewan.specs.declared.SearchReport.{SearchReport}
-use Rattle.poqewan.specs.declared.First.{First}
+use Rattle.carried.specs.declared.Preparation.{Preparation}
+use Rattle.carried.specs.declared.SearchReport.{SearchReport}
+use Rattle.carried.specs.declared.First.{First}
 
 -- 0, or the number of the refusal.
 abbrev pub outcomeNumber : Outcome → ℕ

@@ -1,8 +1,8 @@
--- `poqewan::carry` meets its contract: each arm carries its answer. Assumes nothing.
+-- `carried::carry` meets its contract: each arm carries its answer. Assumes nothing.
 use mathlib.Core.Path.{refl}
 use borrow.Author.Needs.{needs}
-use Rattle.poqewan.proofs.carry.Statement.{statement}
-use Rattle.poqewan.proofs.carry.Tie as tie
+use Rattle.carried.proofs.reports.carry.Statement.{statement}
+use Rattle.carried.proofs.reports.carry.Tie as tie
 
 enum-known-answer : tie.Need-enum-known-answer
 enum-known-answer c = search needs

@@ -15,9 +15,9 @@ use Rattle.rules.specs.declared.Report.{Report}
 use Rattle.search.specs.declared.SearchAnswer.{SearchAnswer}
 use Rattle.search.specs.declared.SearchAnswer.the-variants.{Ran, Refused}
 use Rattle.search.specs.Promise.{IfRan}
-use Rattle.poqewan.specs.Carried.{outcomeNumber, endingNumber, endingWindow, endingOf, carriedReport, carried, reportIn, carriedFirst, firstIn}
-use Rattle.poqewan.specs.declared.SearchReport.{SearchReport}
-use Rattle.poqewan.specs.declared.First.{First}
+use Rattle.carried.specs.Carried.{outcomeNumber, endingNumber, endingWindow, endingOf, carriedReport, carried, reportIn, carriedFirst, firstIn}
+use Rattle.carried.specs.declared.SearchReport.{SearchReport}
+use Rattle.carried.specs.declared.First.{First}
 
 -- What C receives with refusal 0 was ready.
 pub ready-is-0 : (o : Outcome) → (outcomeNumber o ≡ 0) ↔ (o ≡ outcomes.Ready)

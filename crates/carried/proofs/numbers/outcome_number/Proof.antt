@@ -1,8 +1,8 @@
--- `poqewan::outcome_number` meets its contract: each arm gives its number. Assumes nothing.
+-- `carried::outcome_number` meets its contract: each arm gives its number. Assumes nothing.
 use mathlib.Core.Path.{refl}
 use borrow.Author.Needs.{needs}
-use Rattle.poqewan.proofs.outcome_number.Statement.{statement}
-use Rattle.poqewan.proofs.outcome_number.Tie as tie
+use Rattle.carried.proofs.numbers.outcome_number.Statement.{statement}
+use Rattle.carried.proofs.numbers.outcome_number.Tie as tie
 
 enum-told : tie.Need-enum-told
 enum-told c = search needs

@@ -1,8 +1,8 @@
--- `poqewan::carry_first` meets its contract: each arm carries its answer. Assumes nothing.
+-- `carried::carry_first` meets its contract: each arm carries its answer. Assumes nothing.
 use mathlib.Core.Path.{refl}
 use borrow.Author.Needs.{needs}
-use Rattle.poqewan.proofs.carry_first.Statement.{statement}
-use Rattle.poqewan.proofs.carry_first.Tie as tie
+use Rattle.carried.proofs.firsts.carry_first.Statement.{statement}
+use Rattle.carried.proofs.firsts.carry_first.Tie as tie
 
 pub carry-first-spec : {M : Type 1} → statement M
 carry-first-spec =

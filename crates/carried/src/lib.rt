@@ -1,0 +1,40 @@
+// How answers cross to C: as structs of a fixed layout, refusals and endings by number. What is promised of an answer holds of what C receives,
+// since that is read back as it was (`Carrying`).
+mod firsts;
+mod numbers;
+mod reports;
+
+pub use firsts::carry_first;
+pub use numbers::outcome_number;
+use pattern::Pattern;
+pub use reports::carry;
+
+// The number of a refusal, and then all else is 0; or 0, how many pairs of the pattern's letters were compared to build hmax, and the pattern.
+#[repr(C)]
+pub struct Preparation {
+    pub refusal: u32,
+    pub compared: u32,
+    pub pattern: Pattern,
+}
+
+// The number of a refusal, and then all else is 0; or 0 and the report of a search. Its ending is 0 for done, 1 for spent and 2 for full,
+// at a window, which is 0 for done. The columns are at_noholes and at_holes in C and Rust.
+#[repr(C)]
+pub struct SearchReport {
+    pub refusal: u32,
+    pub ending: u32,
+    pub window: usize,
+    pub count: u64,
+    pub noholes: u64,
+    pub holes: u64,
+    pub written: usize,
+}
+
+// The number of a refusal, and then all else is 0; or 0, whether the pattern occurs, as 1 or 0, where it occurs first, or 0, and the count.
+#[repr(C)]
+pub struct First {
+    pub refusal: u32,
+    pub found: u32,
+    pub position: usize,
+    pub count: u64,
+}

@@ -1,2 +1,0 @@
--- The law behind the functions' proofs.
-pub mod Carrying
