@@ -70,6 +70,27 @@ static bool finds_first(const struct version *version, enum side side, const str
         && (first.found == 0 || first.position == list[0]);
 }
 
+static bool tells_no_record(search_function *search, const struct subject *subject)
+{
+    const struct report expected = {.ending = POQEWAN_NO_SUCH_RECORD};
+    struct report report;
+    search(subject->prepared[OURS], subject, UINT64_MAX, NULL, 0, &report);
+    return same_report(&report, &expected, true);
+}
+
+static bool searches_record(const struct version *a, const struct version *b, bool columns, const struct subject *subject,
+                            struct lists lists)
+{
+    if (subject->archive == NULL)
+        return true;
+    if (a->read_directory(subject->archive) != 0)
+        return false;
+    if (subject->record >= subject->archive->records)
+        return tells_no_record(a->colussi_record, subject) && tells_no_record(a->kmp_record, subject);
+    return searches_agree(a->colussi_record, b->colussi, columns, subject, lists)
+        && searches_agree(a->kmp_record, b->kmp, columns, subject, lists);
+}
+
 static bool same_tables(const struct tables *a, const struct tables *b)
 {
     return a->len == b->len && a->noholes == b->noholes && memcmp(a->bytes, b->bytes, sizeof a->bytes) == 0
@@ -99,5 +120,6 @@ bool versions_agree(const struct version *a, const struct version *b, const stru
     return searches_agree(a->colussi, b->colussi, columns, subject, lists)
         && searches_agree(a->kmp, b->kmp, columns, subject, lists)
         && finds_first(a, OURS, subject, lists.one) && finds_first(b, OTHER, subject, lists.other)
+        && searches_record(a, b, columns, subject, lists)
         && (b->prepare == NULL || (prepare_alike(a, b, subject) && a->charge(subject->n) == b->charge(subject->n)));
 }

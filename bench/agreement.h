@@ -12,7 +12,9 @@ struct lists {
 /* Whether our version and the other report and list the same, by each search; also with half the comparisons, with half the list
    and with an empty one, where both are cut off. Columns are compared if both report them. If the other prepares patterns, it must
    do that like ours, and give the same charge. A version that looks for the first occurrence must find the one at which its own
-   search in Colussi's order is full with an empty list, with the same count, and with which a whole list begins. */
+   search in Colussi's order is full with an empty list, with the same count, and with which a whole list begins. If the text is a
+   record of an archive, our version must search it there like the other searches the text; one that is not there it must not
+   search. */
 bool versions_agree(const struct version *a, const struct version *b, const struct subject *subject, struct lists lists);
 
 /* Whether two searches of the whole text list the same: one of ours; and one of the other side, or that needs nothing prepared. */

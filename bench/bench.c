@@ -1,12 +1,13 @@
 /*
  * Measures the library against plain C by the same rules and prints docs/performance-rows.md: the ratios to the C; the search for
- * the first occurrence, beside the library's own search with an empty list; the throughput, with the counts; the cost of
- * preparation and of the check of a pattern; the time per byte as the text grows; the ratios by kind; and whether each target
- * holds.
+ * the first occurrence, beside the library's own search with an empty list; the search of a record of an archive, beside that of the
+ * record by itself; the throughput, with the counts; the cost of preparation and of the check of a pattern; the time per byte as the
+ * text grows; the ratios by kind; and whether each target holds.
  *
  * It exits with 1 if two searches differ in an answer, and then measures nothing. A missed target is printed and no more: times
  * depend on the machine.
  */
+#include "archive.h"
 #include "first.h"
 #include "uncounted.h"
 
@@ -217,6 +218,7 @@ static void verdicts(void)
     judge_ratio("C", "through 16 classes, KMP at 0.8 of the C or better", PLAIN_KINDS, with_classes, KMP,
                 LEAST_RATIO_OF_KMP_BY_CLASSES);
     judge_first();
+    judge_archives();
     judge_growth("time per byte from 64 KiB to 16 MiB within 15 %", GREATEST_SPREAD);
     judge_check("search of an empty text under 4 microseconds at m = 256", 256, LONGEST_CHECK_OF_256);
     judge_check("search of an empty text under 1 microsecond at m = 8", 8, LONGEST_CHECK_OF_8);
@@ -227,6 +229,7 @@ int main(void)
     setvbuf(stdout, NULL, _IOLBF, 0);
     set_rows();
     set_first_rows();
+    set_archive_rows();
     add_trials();
     if (!agree_on_rows(all_agree))
         return 1;
@@ -241,6 +244,7 @@ int main(void)
     print_head_of_ratios("C", "ours");
     print_text_ratios();
     print_first();
+    print_archives();
     throughput();
     costs();
     growths();

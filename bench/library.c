@@ -1,7 +1,7 @@
 /* The library's functions in the form in which they are measured. It is compiled with the header of each build: those from before
-   C-19 know no classes, those from before C-16 report no columns, and those from before C-12 have no search for the first
-   occurrence. C can't ask whether a struct has a field, or whether there is a function, so `run` looks into the header and sets
-   HAS_COLUMNS and HAS_FIRST to 1 or 0. */
+   C-19 know no classes, those from before C-16 report no columns, those from before C-12 have no search for the first
+   occurrence, and those from before C-11 have no archives. C can't ask whether a struct has a field, or whether there is a
+   function, so `run` looks into the header and sets HAS_COLUMNS, HAS_FIRST and HAS_ARCHIVES to 1 or 0. */
 #include "subject.h"
 
 #include <poqewan.h>
@@ -56,6 +56,35 @@ static void first(const void *prepared, const struct subject *subject, struct fi
 #define first NULL
 #endif
 
+#if HAS_ARCHIVES
+static void colussi_record(const void *prepared, const struct subject *subject, uint64_t cap, uint32_t *positions, size_t room,
+                           struct report *report)
+{
+    const struct archive *archive = subject->archive;
+    const poqewan_report answer = poqewan_colussi_record(*(const poqewan_pattern *)prepared, archive->bytes, archive->len,
+                                                         subject->record, cap, positions, room);
+    give(report, plain(&answer));
+}
+
+static void kmp_record(const void *prepared, const struct subject *subject, uint64_t cap, uint32_t *positions, size_t room,
+                       struct report *report)
+{
+    const struct archive *archive = subject->archive;
+    const poqewan_report answer = poqewan_kmp_record(*(const poqewan_pattern *)prepared, archive->bytes, archive->len,
+                                                     subject->record, cap, positions, room);
+    give(report, plain(&answer));
+}
+
+static uint32_t read_directory(const struct archive *archive)
+{
+    return poqewan_read_directory(archive->bytes, archive->len).refusal;
+}
+#else
+#define colussi_record NULL
+#define kmp_record NULL
+#define read_directory NULL
+#endif
+
 static uint32_t prepare(const struct subject *subject, uint16_t *scratch, size_t scratch_len, void *prepared)
 {
     const poqewan_preparation preparation =
@@ -89,5 +118,15 @@ static void copy_tables(const void *prepared, struct tables *tables)
     memcpy(tables->marks, pattern->marks, sizeof tables->marks);
 }
 
-const struct version version = {colussi, kmp, first, sizeof(poqewan_pattern), HAS_CLASSES, HAS_COLUMNS, prepare, copy_tables,
+const struct version version = {colussi,
+                                kmp,
+                                first,
+                                colussi_record,
+                                kmp_record,
+                                read_directory,
+                                sizeof(poqewan_pattern),
+                                HAS_CLASSES,
+                                HAS_COLUMNS,
+                                prepare,
+                                copy_tables,
                                 poqewan_charge};

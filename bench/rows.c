@@ -16,8 +16,7 @@ size_t subjects_made;
 struct lists lists;
 static uint8_t *stores[SIDES]; /* with a prepared pattern for each subject */
 
-/* Memory that was written once, so that no measurement pays for the first touch of a page. */
-static void *touched(size_t bytes)
+void *touched(size_t bytes)
 {
     void *memory = malloc(bytes);
     if (memory == NULL) {
@@ -32,6 +31,11 @@ static size_t length_of_text(const struct input *input)
     if (input->kind != NULL)
         return input->size->n;
     return input->first ? input->m : 0;
+}
+
+static const uint8_t *record_of(const struct input *input)
+{
+    return input->archive->bytes + input->size->n * input->record;
 }
 
 static bool without_occurrence(const struct input *input)
@@ -75,14 +79,16 @@ void make(const struct input *input)
     }
     subjects_made = input->kind != NULL ? 1 : IN_TURN;
     if (input->kind != NULL) {
-        make_input(input->kind, classes, bytes[0], input->m, text, input->size->n, input->number);
+        const size_t n = input->archive != NULL ? 0 : input->size->n; /* an archive is there already */
+        make_input(input->kind, classes, bytes[0], input->m, text, n, input->number);
     } else {
         identity(classes);
         make_in_turn(input->family, bytes, input->m);
     }
     for (size_t i = 0; i < subjects_made; i++) {
-        const uint8_t *in = input->kind != NULL ? text : bytes[i];
-        subjects[i] = (struct subject){bytes[i], input->m, classes, in, length_of_text(input), {NULL}};
+        const uint8_t *in = input->archive != NULL ? record_of(input) : input->kind != NULL ? text : bytes[i];
+        subjects[i] =
+            (struct subject){bytes[i], input->m, classes, in, length_of_text(input), {NULL}, input->archive, input->record};
         for (enum side side = 0; side < SIDES; side++) {
             subjects[i].prepared[side] = stores[side] + i * versions[side][0]->size;
             prepare(&subjects[i], side);
@@ -137,6 +143,7 @@ static const struct work preparation = {"preparation", run_preparation, NULL}, c
 
 struct row rows[ROWS];
 struct row *const longest_texts = rows + TEXTS - COUNT_OF(kinds), *const first_rows = rows + TEXTS + PATTERNS;
+struct row *const archive_rows = rows + TEXTS + PATTERNS + FIRSTS;
 
 void add_trial(struct row *row, const struct work *work, int variants, struct share share)
 {
@@ -219,7 +226,8 @@ bool agree_on_rows(bool (*agree)(const struct subject *subject))
     for (const struct row *row = rows; row < rows + ROWS; row++)
         if (row->trials > 0 && !agree_on_row(row, agree)) {
             printf("DIFFERS: %s, %s, m = %zu%s\n", name_of(row), row->input.kind != NULL ? size_name_of(row) : "no text",
-                   row->input.m, row->input.first ? ", for the first occurrence" : "");
+                   row->input.m,
+                   row->input.first ? ", for the first occurrence" : row->input.archive != NULL ? ", in an archive" : "");
             agreed = false;
         }
     return agreed;

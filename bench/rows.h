@@ -9,7 +9,7 @@
 extern const struct version *const versions[SIDES][COPIES];
 
 /* What is searched: a pattern in a text; or many patterns in turn, and no text. For the first occurrence: a pattern in a text
-   without any; or many patterns in turn, each in a text that is the pattern itself. */
+   without any; or many patterns in turn, each in a text that is the pattern itself. For archives: a pattern in a record. */
 struct input {
     const struct kind *kind; /* with the size of the text; or none, and then */
     const struct size *size;
@@ -17,7 +17,12 @@ struct input {
     size_t m;
     uint64_t number; /* that the generator starts with, if there is a kind */
     bool first;      /* whether it is for the first occurrence */
+    const struct archive *archive; /* or NULL; its records have texts of the kind, and all have that size */
+    uint64_t record;               /* if it is not there, the size is 0 */
 };
+
+/* Memory that was written once, so that no measurement pays for the first touch of a page. */
+void *touched(size_t bytes);
 
 /* Makes an input, and lets both sides prepare it. Its patterns, or its only one, are then in `subjects`, and the lists have an
    entry for each byte. */
@@ -39,17 +44,18 @@ struct row {
     struct trial trial[MOST_TRIALS];
 };
 
-/* The rows: short texts; longer ones, each with one length of pattern; patterns; and those for the first occurrence, which are left
-   out unless a program sets them. */
+/* The rows: short texts; longer ones, each with one length of pattern; patterns; and those for the first occurrence and for
+   archives, which are left out unless a program sets them. */
 #define LENGTH_IN_LONG_TEXTS 16
 #define SHORT_TEXTS (COUNT_OF(kinds) * COUNT_OF(lengths))
 #define TEXTS (SHORT_TEXTS + COUNT_OF(kinds) * (COUNT_OF(sizes) - 1))
 #define PATTERNS (COUNT_OF(families) * COUNT_OF(lengths_of_patterns))
 #define SCANS (SHORT_TEXTS + COUNT_OF(kinds)) /* of the short texts, and of the shortest of the longer ones */
 #define FIRSTS (SCANS + PATTERNS)
-#define ROWS (TEXTS + PATTERNS + FIRSTS)
+#define IN_ARCHIVES 16
+#define ROWS (TEXTS + PATTERNS + FIRSTS + IN_ARCHIVES)
 extern struct row rows[ROWS];
-extern struct row *const first_rows;
+extern struct row *const first_rows, *const archive_rows;
 extern struct row *const longest_texts; /* one of each kind */
 
 /* Sets the rows: both searches by both sides in texts; preparation and the check of patterns by the sides that have them. Kinds

@@ -13,7 +13,16 @@
 /* The two that are compared. */
 enum side { OURS, OTHER, SIDES };
 
-/* A pattern with its classes, and the text to look for it in. Each side has prepared it before, into a store of its own. */
+/* Many texts in one run of bytes, with a directory behind them. */
+struct archive {
+    uint8_t *bytes;
+    size_t len;
+    uint64_t records;
+    size_t directory; /* where it starts */
+};
+
+/* A pattern with its classes, and the text to look for it in. Each side has prepared it before, into a store of its own. The text
+   may be a record of an archive; with a number of a record that is not there, it is empty. */
 struct subject {
     const uint8_t *bytes;
     size_t m;
@@ -21,6 +30,8 @@ struct subject {
     const uint8_t *text;
     size_t n;
     void *prepared[SIDES];
+    const struct archive *archive; /* or NULL */
+    uint64_t record;
 };
 
 /* The library's report. The columns of a build that reports none are 0. */
@@ -63,6 +74,9 @@ struct tables {
 struct version {
     search_function *colussi, *kmp;
     first_function *first; /* NULL in a build that has none */
+    /* Of the record in its archive, and of the directory, with the number of the refusal; all NULL in a build without archives. */
+    search_function *colussi_record, *kmp_record;
+    uint32_t (*read_directory)(const struct archive *archive);
     size_t size;           /* of a store */
     bool has_classes;      /* or else it can only be asked where they are the identity */
     bool has_columns;      /* or else it reports the count alone */

@@ -1,7 +1,7 @@
 /*
  * Exact search for every occurrence of a byte pattern in a text, with the comparisons of a pattern byte with a text byte
- * counted. Two bytes are equal when their classes are. Link libpoqewan.a, which is for x86-64. Example, with each value a
- * class of its own:
+ * counted. Two bytes are equal when their classes are. Link libpoqewan.a and, for archives, libpoqewan_archives.a; they are
+ * for x86-64. Example, with each value a class of its own:
  *
  *     uint8_t classes[POQEWAN_CLASSES];
  *     uint16_t scratch[POQEWAN_SCRATCH];
@@ -30,11 +30,13 @@
 extern "C" {
 #endif
 
-/* The longest pattern and the longest text that are accepted, the number of classes, and the least scratch. */
+/* The longest pattern and the longest text or archive that are accepted, the number of classes, the least scratch, and the most
+   records of an archive. */
 #define POQEWAN_LONGEST_PATTERN 256
 #define POQEWAN_LONGEST_TEXT 16777216
 #define POQEWAN_CLASSES 256
 #define POQEWAN_SCRATCH 514
+#define POQEWAN_MOST_RECORDS 4096
 
 /* Refusals, by their numbers. Where more than one applies, the first in the function's order of tests is given. */
 #define POQEWAN_NO_PATTERN 1
@@ -42,15 +44,19 @@ extern "C" {
 #define POQEWAN_SHORT_SCRATCH 3
 #define POQEWAN_FALSE_PATTERN 4
 #define POQEWAN_LONG_TEXT 5
+#define POQEWAN_NO_TRAILER 7
+#define POQEWAN_FALSE_DIRECTORY 8
+#define POQEWAN_RECORDS_APART 9
 #define POQEWAN_ZERO_IN_PATTERN 10
 #define POQEWAN_CLASSES_NOT_256 14
 #define POQEWAN_ZERO_CLASS_SHARED 15
 
 /* How a search ended: run to its end; or cut off at a window, where a comparison was due and the cap was spent, or where the
-   pattern occurred and the list had no free entry. */
+   pattern occurred and the list had no free entry. Or nothing was searched, since the archive has no such record. */
 #define POQEWAN_DONE 0
 #define POQEWAN_SPENT 1
 #define POQEWAN_FULL 2
+#define POQEWAN_NO_SUCH_RECORD 3
 
 /* A pattern prepared for search: m bytes, none of them 0, the classes by which bytes are compared, and the tables of these
    bytes by these classes. The entries past those defined are 0. A search refuses any value that preparation does not give,
@@ -73,10 +79,11 @@ typedef struct poqewan_preparation {
     poqewan_pattern pattern;
 } poqewan_preparation;
 
-/* The number of a refusal, and then all else is 0; or 0 and the report of a search. */
+/* The number of a refusal, and then all else is 0; or 0 and the report of a search. Of a search of one record the ending may be
+   POQEWAN_NO_SUCH_RECORD, and then all else is 0. */
 typedef struct poqewan_report {
     uint32_t refusal;
-    uint32_t ending;     /* POQEWAN_DONE, POQEWAN_SPENT or POQEWAN_FULL */
+    uint32_t ending;     /* POQEWAN_DONE, POQEWAN_SPENT, POQEWAN_FULL or POQEWAN_NO_SUCH_RECORD */
     size_t window;       /* the window at which the search was cut off, or 0 */
     uint64_t count;      /* the comparisons of a pattern byte with a text byte */
     uint64_t at_noholes; /* those of them that were made at noholes of the pattern */
@@ -91,6 +98,21 @@ typedef struct poqewan_first {
     size_t position; /* where it occurs first, or 0 */
     uint64_t count;  /* the comparisons of a pattern byte with a text byte */
 } poqewan_first;
+
+/* The number of a refusal, and then all else is 0; or 0 and the directory of an archive. */
+typedef struct poqewan_directory {
+    uint32_t refusal;
+    uint32_t records; /* the number of records, at most POQEWAN_MOST_RECORDS */
+    size_t start;     /* where the directory starts, and the last record ends */
+} poqewan_directory;
+
+/* The number of a refusal, and then all else is 0; or 0 and where a record of an archive lies. */
+typedef struct poqewan_bounds {
+    uint32_t refusal;
+    uint32_t found; /* 1 if there is such a record; or 0, and then all else is 0 */
+    size_t start;   /* the record's bytes are those of the archive from here on */
+    size_t end;     /* and below here */
+} poqewan_bounds;
 
 /* Fills entry v with v mod 256. So POQEWAN_CLASSES entries give each byte value a class of its own: itself. */
 void poqewan_identity(uint8_t *classes, size_t classes_len);
@@ -150,6 +172,37 @@ poqewan_report poqewan_kmp(poqewan_pattern pattern, const uint8_t *text, size_t 
  * if n >= m, and count = 0 if n < m.
  */
 poqewan_first poqewan_find_first(poqewan_pattern pattern, const uint8_t *text, size_t text_len);
+
+/*
+ * An archive is many texts in one run of bytes. Its records lie back to back from byte 0, in order and with no gaps; empty ones
+ * are allowed. Behind them stands the directory: for each record its start and its length. The last 12 bytes are the trailer:
+ * where the directory starts, the number of records, and the bytes 52 45 45 4C (hexadecimal). Each number has 4 bytes,
+ * little-endian, and starts count from the archive's first byte. The four functions on archives are in libpoqewan_archives.a.
+ *
+ * Reads the directory of an archive. Refused, in this order: more than POQEWAN_LONGEST_TEXT bytes (5); fewer than 12 bytes, or
+ * other closing bytes (7); more than POQEWAN_MOST_RECORDS records, or a directory that is not exactly the bytes from its start
+ * to the trailer (8); a record whose start is not the end of the one before, 0 for the first, or a last one that does not end
+ * where the directory starts, or no records and a directory that does not start at 0 (9).
+ */
+poqewan_directory poqewan_read_directory(const uint8_t *archive, size_t archive_len);
+
+/* Where a record of an archive lies. Records count from 0. Refused as by poqewan_read_directory, and a record that is not there
+   is told after that. A record that is found lies within the archive: start <= end <= archive_len. */
+poqewan_bounds poqewan_find_record(const uint8_t *archive, size_t archive_len, uint64_t record);
+
+/*
+ * Searches one record of an archive in Colussi's order. The report and the list are those of poqewan_colussi on the record's
+ * bytes: positions count from the record's own first byte, and n is the record's length. Refused, in this order, with the list
+ * unchanged: a pattern that is not what preparation gives for its own length, bytes and classes (4), and what
+ * poqewan_read_directory refuses (5, 7, 8, 9). After that, if the archive has no such record, the ending is
+ * POQEWAN_NO_SUCH_RECORD and the list is unchanged.
+ */
+poqewan_report poqewan_colussi_record(poqewan_pattern pattern, const uint8_t *archive, size_t archive_len, uint64_t record,
+                                      uint64_t cap, uint32_t *positions, size_t positions_len);
+
+/* The same by Knuth, Morris and Pratt: the report and the list are those of poqewan_kmp on the record's bytes. */
+poqewan_report poqewan_kmp_record(poqewan_pattern pattern, const uint8_t *archive, size_t archive_len, uint64_t record,
+                                  uint64_t cap, uint32_t *positions, size_t positions_len);
 
 /* The charge of a count of comparisons: its started thousands. */
 uint64_t poqewan_charge(uint64_t count);

@@ -11,7 +11,8 @@ pub struct Preparation {
     pub pattern: Pattern,
 }
 
-/// The number of a refusal, and then all else is 0; or 0 and the report of a search.
+/// The number of a refusal, and then all else is 0; or 0 and the report of a search. Of a search of
+/// one record the ending may be [`NO_SUCH_RECORD`], and then all else is 0.
 #[repr(C)]
 pub struct Report {
     pub refusal: u32,
@@ -32,11 +33,42 @@ pub struct First {
     pub count: u64,
 }
 
+/// The number of a refusal, and then all else is 0; or 0 and the directory of an archive.
+#[repr(C)]
+pub struct Directory {
+    pub refusal: u32,
+    pub records: u32,
+    pub start: usize,
+}
+
+/// The number of a refusal, and then all else is 0; or 0 and where a record of an archive lies.
+#[repr(C)]
+pub struct Bounds {
+    pub refusal: u32,
+    pub found: u32,
+    pub start: usize,
+    pub end: usize,
+}
+
+/// The ending of a search of one record where the archive has no such record.
+pub const NO_SUCH_RECORD: u32 = 3;
+
 /// The type of both searches.
 pub type Search = unsafe extern "C" fn(
     pattern: Pattern,
     text: *const u8,
     text_len: usize,
+    cap: u64,
+    positions: *mut u32,
+    positions_len: usize,
+) -> Report;
+
+/// The type of both searches of one record of an archive.
+pub type RecordSearch = unsafe extern "C" fn(
+    pattern: Pattern,
+    archive: *const u8,
+    archive_len: usize,
+    record: u64,
     cap: u64,
     positions: *mut u32,
     positions_len: usize,
@@ -74,6 +106,30 @@ extern "C" {
 
     pub fn poqewan_find_first(pattern: Pattern, text: *const u8, text_len: usize) -> First;
 
+    pub fn poqewan_read_directory(archive: *const u8, archive_len: usize) -> Directory;
+
+    pub fn poqewan_find_record(archive: *const u8, archive_len: usize, record: u64) -> Bounds;
+
+    pub fn poqewan_colussi_record(
+        pattern: Pattern,
+        archive: *const u8,
+        archive_len: usize,
+        record: u64,
+        cap: u64,
+        positions: *mut u32,
+        positions_len: usize,
+    ) -> Report;
+
+    pub fn poqewan_kmp_record(
+        pattern: Pattern,
+        archive: *const u8,
+        archive_len: usize,
+        record: u64,
+        cap: u64,
+        positions: *mut u32,
+        positions_len: usize,
+    ) -> Report;
+
     pub fn poqewan_charge(count: u64) -> u64;
 }
 
@@ -108,4 +164,15 @@ const _: () = {
     assert!(offset_of!(First, found) == 4);
     assert!(offset_of!(First, position) == 8);
     assert!(offset_of!(First, count) == 16);
+
+    assert!(size_of::<Directory>() == 16);
+    assert!(offset_of!(Directory, refusal) == 0);
+    assert!(offset_of!(Directory, records) == 4);
+    assert!(offset_of!(Directory, start) == 8);
+
+    assert!(size_of::<Bounds>() == 24);
+    assert!(offset_of!(Bounds, refusal) == 0);
+    assert!(offset_of!(Bounds, found) == 4);
+    assert!(offset_of!(Bounds, start) == 8);
+    assert!(offset_of!(Bounds, end) == 16);
 };

@@ -3,7 +3,9 @@
 //!
 //! These are safe wrappers of a proved library. Every function answers whatever it is given: what
 //! it answers, and what the lent memory then holds, is fixed by the arguments alone and proved. No
-//! function allocates or changes anything but what is said below.
+//! function allocates or changes anything but what is said below. Two things are made here and
+//! only tested: [`pack`], which allocates, and the view of an [`Archive`] whose directory the
+//! library has read.
 //!
 //! With each value a class of its own:
 //!
@@ -56,19 +58,44 @@
 //! assert_eq!(first, First::Absent { count: 2 });
 //! # Ok::<(), Refusal>(())
 //! ```
+//!
+//! Three records in one archive, and a search of one of them:
+//!
+//! ```
+//! use poqewan::{colussi_record, identity, pack, prepare, Archive, SCRATCH};
+//!
+//! let bytes = pack(&["cab", "", "ababa"])?;
+//!
+//! let archive = Archive::open(&bytes)?;
+//! assert_eq!(archive.len(), 3);
+//! assert_eq!(archive.record(2), Some(&b"ababa"[..]));
+//!
+//! let pattern = prepare(b"aba", &identity(), &mut [0; SCRATCH])?.pattern;
+//! let mut positions = [0; 8];
+//! let report = colussi_record(&pattern, &bytes, 2, u64::MAX, &mut positions)?;
+//! let report = report.expect("there are three records");
+//! assert_eq!(positions[..report.written], [0, 2]);
+//!
+//! assert_eq!(colussi_record(&pattern, &bytes, 3, u64::MAX, &mut positions)?, None);
+//! # Ok::<(), Box<dyn std::error::Error>>(())
+//! ```
 
 #![deny(unsafe_op_in_unsafe_fn, missing_docs)]
 #![deny(clippy::undocumented_unsafe_blocks)]
 
+mod archive;
 mod ffi;
+
+pub use archive::{pack, Archive, PackError};
 
 use std::error::Error;
 use std::fmt;
+use std::ops::Range;
 
 /// The longest pattern that is accepted, in bytes.
 pub const LONGEST_PATTERN: usize = 256;
 
-/// The longest text that is accepted, in bytes.
+/// The longest text or archive that is accepted, in bytes.
 pub const LONGEST_TEXT: usize = 16_777_216;
 
 /// The number of classes: one for each byte value.
@@ -76,6 +103,9 @@ pub const CLASSES: usize = 256;
 
 /// The least scratch, in numbers.
 pub const SCRATCH: usize = 514;
+
+/// The most records of an archive.
+pub const MOST_RECORDS: usize = 4_096;
 
 /// A pattern prepared for search: m bytes, none of them 0, the classes by which bytes are compared,
 /// and the tables of these bytes by these classes. The entries past those defined are 0.
@@ -126,8 +156,17 @@ pub enum Refusal {
     ShortScratch = 3,
     /// The pattern is not what preparation gives for its own length, bytes and classes.
     FalsePattern = 4,
-    /// The text has more than [`LONGEST_TEXT`] bytes.
+    /// The text or the archive has more than [`LONGEST_TEXT`] bytes.
     LongText = 5,
+    /// The archive has fewer than 12 bytes, or other closing bytes.
+    NoTrailer = 7,
+    /// The archive has more than [`MOST_RECORDS`] records, or its directory is not exactly the
+    /// bytes from its start to the trailer.
+    FalseDirectory = 8,
+    /// The archive has a record whose start is not the end of the one before, 0 for the first, or a
+    /// last one that does not end where the directory starts, or no records and a directory that
+    /// does not start at 0.
+    RecordsApart = 9,
     /// The pattern holds a byte 0.
     ZeroInPattern = 10,
     /// The number of classes is not [`CLASSES`].
@@ -153,7 +192,15 @@ impl fmt::Display for Refusal {
             Self::FalsePattern => {
                 "the pattern is not what preparation gives for its length, bytes and classes"
             }
-            Self::LongText => "the text has too many bytes",
+            Self::LongText => "the text or the archive has too many bytes",
+            Self::NoTrailer => "the archive does not end with a trailer",
+            Self::FalseDirectory => {
+                "the archive has too many records, or its directory does not fill the bytes from \
+                 its start to the trailer"
+            }
+            Self::RecordsApart => {
+                "the archive's records do not touch from its first byte to its directory"
+            }
             Self::ZeroInPattern => "the pattern holds a byte 0",
             Self::ClassesNot256 => "the number of classes is not 256",
             Self::ZeroClassShared => "a value other than 0 has the class of 0",
@@ -319,6 +366,71 @@ pub fn find_first(pattern: &Pattern, text: &[u8]) -> Result<First, Refusal> {
     first_of(&answer)
 }
 
+/// Where a record of an archive lies: its bytes are those of the archive in this range. `Ok(None)`
+/// means that there is no such record. Records count from 0.
+///
+/// # Errors
+///
+/// Refused as by [`Archive::open`]. A record that is not there is told after that.
+pub fn find_record(archive: &[u8], record: u64) -> Result<Option<Range<usize>>, Refusal> {
+    // SAFETY: the pointer and the number of elements are those of a slice.
+    let answer = unsafe { ffi::poqewan_find_record(archive.as_ptr(), archive.len(), record) };
+    bounds_of(&answer)
+}
+
+/// Searches one record of an archive in Colussi's order. `Ok(None)` means that there is no such
+/// record, and then the list is unchanged. Records count from 0.
+///
+/// The report and the list are those of [`colussi`] on the record's bytes: positions count from the
+/// record's own first byte, and n is the record's length.
+///
+/// # Errors
+///
+/// Refused, in this order, with the list unchanged: a pattern that is not what preparation gives
+/// for its own length, bytes and classes (4), and what [`Archive::open`] refuses (5, 7, 8, 9). A
+/// record that is not there is told after that.
+pub fn colussi_record(
+    pattern: &Pattern,
+    archive: &[u8],
+    record: u64,
+    cap: u64,
+    positions: &mut [u32],
+) -> Result<Option<Report>, Refusal> {
+    search_record(
+        ffi::poqewan_colussi_record,
+        pattern,
+        archive,
+        record,
+        cap,
+        positions,
+    )
+}
+
+/// Searches one record of an archive by Knuth, Morris and Pratt, with the same refusals as
+/// [`colussi_record`], and `Ok(None)` where there is no such record.
+///
+/// The report and the list are those of [`kmp`] on the record's bytes.
+///
+/// # Errors
+///
+/// Refused as [`colussi_record`] is.
+pub fn kmp_record(
+    pattern: &Pattern,
+    archive: &[u8],
+    record: u64,
+    cap: u64,
+    positions: &mut [u32],
+) -> Result<Option<Report>, Refusal> {
+    search_record(
+        ffi::poqewan_kmp_record,
+        pattern,
+        archive,
+        record,
+        cap,
+        positions,
+    )
+}
+
 /// The charge of a count of comparisons: its started thousands.
 #[must_use]
 pub fn charge(count: u64) -> u64 {
@@ -349,6 +461,31 @@ fn search(
     searched(&answer)
 }
 
+/// Calls one of the library's two searches of a record.
+fn search_record(
+    by: ffi::RecordSearch,
+    pattern: &Pattern,
+    archive: &[u8],
+    record: u64,
+    cap: u64,
+    positions: &mut [u32],
+) -> Result<Option<Report>, Refusal> {
+    // SAFETY: each pointer and its number of elements are those of a slice, and what is written is
+    // borrowed mutably, so it overlaps nothing else. Any value of the pattern is answered.
+    let answer = unsafe {
+        by(
+            *pattern,
+            archive.as_ptr(),
+            archive.len(),
+            record,
+            cap,
+            positions.as_mut_ptr(),
+            positions.len(),
+        )
+    };
+    record_searched(&answer)
+}
+
 /// Reads the number of a refusal, or 0.
 fn accepted(number: u32) -> Result<(), Refusal> {
     match number {
@@ -358,6 +495,9 @@ fn accepted(number: u32) -> Result<(), Refusal> {
         3 => Err(Refusal::ShortScratch),
         4 => Err(Refusal::FalsePattern),
         5 => Err(Refusal::LongText),
+        7 => Err(Refusal::NoTrailer),
+        8 => Err(Refusal::FalseDirectory),
+        9 => Err(Refusal::RecordsApart),
         10 => Err(Refusal::ZeroInPattern),
         14 => Err(Refusal::ClassesNot256),
         15 => Err(Refusal::ZeroClassShared),
@@ -383,6 +523,25 @@ fn searched(answer: &ffi::Report) -> Result<Report, Refusal> {
     })
 }
 
+/// Reads what a search of a record answered.
+fn record_searched(answer: &ffi::Report) -> Result<Option<Report>, Refusal> {
+    accepted(answer.refusal)?;
+    match answer.ending {
+        ffi::NO_SUCH_RECORD => Ok(None),
+        _ => searched(answer).map(Some),
+    }
+}
+
+/// Reads where a record lies.
+fn bounds_of(answer: &ffi::Bounds) -> Result<Option<Range<usize>>, Refusal> {
+    accepted(answer.refusal)?;
+    Ok(match answer.found {
+        0 => None,
+        1 => Some(answer.start..answer.end),
+        other => unreachable!("the library's contract has no found {other}"),
+    })
+}
+
 /// Reads what a search for the first position answered.
 fn first_of(answer: &ffi::First) -> Result<First, Refusal> {
     accepted(answer.refusal)?;
@@ -404,16 +563,16 @@ mod tests {
 
     #[test]
     fn the_number_of_a_refusal_is_read_back_as_that_refusal() {
-        for number in (1..=5).chain([10, 14, 15]) {
+        for number in (1..=5).chain([7, 8, 9, 10, 14, 15]) {
             assert_eq!(accepted(number).map_err(Refusal::number), Err(number));
         }
         assert_eq!(accepted(0), Ok(()));
     }
 
     #[test]
-    #[should_panic(expected = "no refusal 9")]
+    #[should_panic(expected = "no refusal 6")]
     fn a_refusal_outside_the_contract_panics() {
-        let _ = accepted(9);
+        let _ = accepted(6);
     }
 
     #[test]
@@ -449,6 +608,66 @@ mod tests {
             written: 5,
         };
         assert_eq!(searched(&answer), Ok(report));
+        assert_eq!(record_searched(&answer), Ok(Some(report)));
+    }
+
+    #[test]
+    fn of_a_record_a_refusal_is_read_first_and_then_ending_3_as_no_such_record() {
+        let none = ffi::Report {
+            refusal: 0,
+            ending: 3,
+            window: 0,
+            count: 0,
+            at_noholes: 0,
+            at_holes: 0,
+            written: 0,
+        };
+        let refused = ffi::Report { refusal: 9, ..none };
+        assert_eq!(record_searched(&none), Ok(None));
+        assert_eq!(record_searched(&refused), Err(Refusal::RecordsApart));
+    }
+
+    #[test]
+    #[should_panic(expected = "no ending 4")]
+    fn an_ending_of_a_record_outside_the_contract_panics() {
+        let _ = record_searched(&ffi::Report {
+            refusal: 0,
+            ending: 4,
+            window: 0,
+            count: 0,
+            at_noholes: 0,
+            at_holes: 0,
+            written: 0,
+        });
+    }
+
+    #[test]
+    fn each_field_of_a_record_s_bounds_is_read_as_that_field() {
+        let found = ffi::Bounds {
+            refusal: 0,
+            found: 1,
+            start: 2,
+            end: 7,
+        };
+        let none = ffi::Bounds { found: 0, ..found };
+        let refused = ffi::Bounds {
+            refusal: 8,
+            ..found
+        };
+        assert_eq!(bounds_of(&found), Ok(Some(2..7)));
+        assert_eq!(bounds_of(&none), Ok(None));
+        assert_eq!(bounds_of(&refused), Err(Refusal::FalseDirectory));
+    }
+
+    #[test]
+    #[should_panic(expected = "no found 2")]
+    fn a_found_record_outside_the_contract_panics() {
+        let _ = bounds_of(&ffi::Bounds {
+            refusal: 0,
+            found: 2,
+            start: 0,
+            end: 0,
+        });
     }
 
     #[test]

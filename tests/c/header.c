@@ -20,3 +20,22 @@ uint64_t charge_of(const uint8_t *bytes, size_t m, const uint8_t *text, size_t n
         r = poqewan_kmp(p.pattern, text, n, UINT64_MAX, positions, 0);
     return poqewan_charge(r.count);
 }
+
+uint64_t charge_of_record(const poqewan_pattern *pattern, const uint8_t *archive, size_t len, uint64_t record);
+
+uint64_t charge_of_record(const poqewan_pattern *pattern, const uint8_t *archive, size_t len, uint64_t record)
+{
+    uint32_t positions[8192];
+    poqewan_directory d = poqewan_read_directory(archive, len);
+    if (d.refusal == POQEWAN_NO_TRAILER || d.refusal == POQEWAN_FALSE_DIRECTORY || d.refusal == POQEWAN_RECORDS_APART)
+        return 0;
+    if (d.records > POQEWAN_MOST_RECORDS || d.start > len)
+        return 0;
+    poqewan_bounds b = poqewan_find_record(archive, len, record);
+    if (b.refusal != 0 || b.found == 0 || b.end - b.start > POQEWAN_LONGEST_TEXT)
+        return 0;
+    poqewan_report r = poqewan_colussi_record(*pattern, archive, len, record, UINT64_MAX, positions, 8192);
+    if (r.refusal != 0 || r.ending == POQEWAN_NO_SUCH_RECORD)
+        r = poqewan_kmp_record(*pattern, archive, len, record, UINT64_MAX, positions, 0);
+    return poqewan_charge(r.count);
+}

@@ -16,6 +16,7 @@ _Static_assert(POQEWAN_LONGEST_PATTERN == 256, "the longest pattern");
 _Static_assert(POQEWAN_LONGEST_TEXT == 16777216, "the longest text");
 _Static_assert(POQEWAN_CLASSES == 256, "the number of classes");
 _Static_assert(POQEWAN_SCRATCH == 514, "the least scratch");
+_Static_assert(POQEWAN_MOST_RECORDS == 4096, "the most records");
 
 /* The numbers of the refusals that the documents name. */
 _Static_assert(POQEWAN_NO_PATTERN == 1, "no pattern");
@@ -23,9 +24,18 @@ _Static_assert(POQEWAN_LONG_PATTERN == 2, "long pattern");
 _Static_assert(POQEWAN_SHORT_SCRATCH == 3, "short scratch");
 _Static_assert(POQEWAN_FALSE_PATTERN == 4, "false pattern");
 _Static_assert(POQEWAN_LONG_TEXT == 5, "long text");
+_Static_assert(POQEWAN_NO_TRAILER == 7, "no trailer");
+_Static_assert(POQEWAN_FALSE_DIRECTORY == 8, "false directory");
+_Static_assert(POQEWAN_RECORDS_APART == 9, "records apart");
 _Static_assert(POQEWAN_ZERO_IN_PATTERN == 10, "zero in pattern");
 _Static_assert(POQEWAN_CLASSES_NOT_256 == 14, "classes not 256");
 _Static_assert(POQEWAN_ZERO_CLASS_SHARED == 15, "zero's class shared");
+
+/* The numbers of the endings. */
+_Static_assert(POQEWAN_DONE == 0, "done");
+_Static_assert(POQEWAN_SPENT == 1, "spent");
+_Static_assert(POQEWAN_FULL == 2, "full");
+_Static_assert(POQEWAN_NO_SUCH_RECORD == 3, "no such record");
 
 /* The layout that the archive was built with. */
 _Static_assert(sizeof(poqewan_pattern) == 1848, "poqewan_pattern");
@@ -54,6 +64,15 @@ _Static_assert(offsetof(poqewan_first, refusal) == 0, "refusal");
 _Static_assert(offsetof(poqewan_first, found) == 4, "found");
 _Static_assert(offsetof(poqewan_first, position) == 8, "position");
 _Static_assert(offsetof(poqewan_first, count) == 16, "count");
+_Static_assert(sizeof(poqewan_directory) == 16, "poqewan_directory");
+_Static_assert(offsetof(poqewan_directory, refusal) == 0, "refusal");
+_Static_assert(offsetof(poqewan_directory, records) == 4, "records");
+_Static_assert(offsetof(poqewan_directory, start) == 8, "start");
+_Static_assert(sizeof(poqewan_bounds) == 24, "poqewan_bounds");
+_Static_assert(offsetof(poqewan_bounds, refusal) == 0, "refusal");
+_Static_assert(offsetof(poqewan_bounds, found) == 4, "found");
+_Static_assert(offsetof(poqewan_bounds, start) == 8, "start");
+_Static_assert(offsetof(poqewan_bounds, end) == 16, "end");
 
 /* The bytes of a pattern that belong to no field. */
 #define PADDING_FROM (offsetof(poqewan_pattern, next) + sizeof ((poqewan_pattern *)NULL)->next)
@@ -1176,6 +1195,739 @@ static void test_long_text(void)
     free(text);
 }
 
+/* The searches of one record of an archive, in the order of those above. */
+typedef poqewan_report record_function(poqewan_pattern, const uint8_t *, size_t, uint64_t, uint64_t, uint32_t *, size_t);
+static record_function *const record_searches[] = {poqewan_colussi_record, poqewan_kmp_record};
+
+/* What stands behind the records: an entry for each, and the trailer, which ends with the closing bytes. */
+#define ENTRY 8
+#define TRAILER 12
+static const uint8_t closing[4] = {0x52, 0x45, 0x45, 0x4C};
+
+static void put_number(uint8_t *bytes, uint32_t number)
+{
+    for (int i = 0; i < 4; i++) {
+        bytes[i] = (uint8_t)(number % 256);
+        number /= 256;
+    }
+}
+
+static uint64_t number_at(const uint8_t *bytes)
+{
+    return bytes[0] + UINT64_C(256) * bytes[1] + UINT64_C(65536) * bytes[2] + UINT64_C(16777216) * bytes[3];
+}
+
+struct archive {
+    uint8_t *bytes;
+    size_t len;
+};
+
+struct entry {
+    uint32_t start, len;
+};
+
+/* Lends an archive with these bytes of records, these entries, and these numbers in its trailer. They may be wrong. */
+static struct archive lend_archive(const void *bytes, size_t bytes_len, const struct entry *entries, size_t entries_len,
+                                   uint32_t start, uint32_t records)
+{
+    struct archive a = {NULL, bytes_len + ENTRY * entries_len + TRAILER};
+    a.bytes = lend(a.len);
+    if (bytes_len > 0)
+        memcpy(a.bytes, bytes, bytes_len);
+    uint8_t *at = a.bytes + bytes_len;
+    for (size_t r = 0; r < entries_len; r++) {
+        put_number(at, entries[r].start);
+        put_number(at + 4, entries[r].len);
+        at += ENTRY;
+    }
+    put_number(at, start);
+    put_number(at + 4, records);
+    memcpy(at + 8, closing, sizeof closing);
+    return a;
+}
+
+static struct archive lend_copy(const void *bytes, size_t len)
+{
+    return (struct archive){lend_bytes(bytes, len), len};
+}
+
+/* Lends the archive of records of these lengths, that lie in these bytes one after the other. */
+static struct archive pack(const void *bytes, const uint32_t *lengths, size_t records)
+{
+    struct entry *entries = lend(records * sizeof *entries);
+    uint32_t end = 0;
+    for (size_t r = 0; r < records; r++) {
+        entries[r] = (struct entry){end, lengths[r]};
+        end += lengths[r];
+    }
+    struct archive a = lend_archive(bytes, end, entries, records, end, (uint32_t)records);
+    free(entries);
+    return a;
+}
+
+/* An archive read again, by the words of the request. The sums have 64 bits, and none of them wraps. */
+struct reading {
+    uint32_t refusal;
+    uint64_t records, start;
+};
+
+static uint64_t start_of(const uint8_t *archive, uint64_t directory, uint64_t record)
+{
+    return number_at(archive + directory + ENTRY * record);
+}
+
+static uint64_t end_of(const uint8_t *archive, uint64_t directory, uint64_t record)
+{
+    return start_of(archive, directory, record) + number_at(archive + directory + ENTRY * record + 4);
+}
+
+static struct reading read_again(const uint8_t *archive, size_t len)
+{
+    if (len > POQEWAN_LONGEST_TEXT)
+        return (struct reading){POQEWAN_LONG_TEXT, 0, 0};
+    if (len < TRAILER || memcmp(archive + len - sizeof closing, closing, sizeof closing) != 0)
+        return (struct reading){POQEWAN_NO_TRAILER, 0, 0};
+    uint64_t start = number_at(archive + len - 12), records = number_at(archive + len - 8);
+    if (records > POQEWAN_MOST_RECORDS || start + ENTRY * records != len - TRAILER)
+        return (struct reading){POQEWAN_FALSE_DIRECTORY, 0, 0};
+    for (uint64_t r = 0; r < records; r++)
+        if (start_of(archive, start, r) != (r == 0 ? 0 : end_of(archive, start, r - 1)))
+            return (struct reading){POQEWAN_RECORDS_APART, 0, 0};
+    if (start != (records == 0 ? 0 : end_of(archive, start, records - 1)))
+        return (struct reading){POQEWAN_RECORDS_APART, 0, 0};
+    return (struct reading){0, records, start};
+}
+
+static bool is_directory(poqewan_directory directory, uint32_t refusal, uint64_t records, uint64_t start)
+{
+    return directory.refusal == refusal && directory.records == records && directory.start == start;
+}
+
+static bool is_bounds(poqewan_bounds bounds, uint32_t refusal, uint32_t found, uint64_t start, uint64_t end)
+{
+    return bounds.refusal == refusal && bounds.found == found && bounds.start == start && bounds.end == end;
+}
+
+/* Both searches of a record must answer with this refusal and this ending, with 0 in all else, and leave the list as it is,
+   whatever the cap is and with or without a list. */
+static void check_not_searched(const poqewan_pattern *pattern, struct archive a, uint64_t record, uint32_t refusal,
+                               uint32_t ending)
+{
+    uint32_t *list = lend_list(4);
+    for (int s = 0; s < SEARCHES; s++)
+        for (size_t list_len = 0; list_len <= 4; list_len += 4) {
+            uint64_t cap = list_len == 0 ? 0 : UINT64_MAX;
+            poqewan_report r = record_searches[s](*pattern, a.bytes, a.len, record, cap, list, list_len);
+            CHECK(r.refusal == refusal && r.ending == ending && r.window == 0 && r.count == 0 && r.at_noholes == 0 &&
+                  r.at_holes == 0 && r.written == 0);
+            CHECK(unwritten(list, 0, 4));
+        }
+    free(list);
+}
+
+/* Searches a record that is there. The report and the list must be those by the rules on the record's bytes, and those of the
+   search of these bytes by themselves. */
+static poqewan_report check_part(int search, const poqewan_pattern *pattern, struct archive a, uint64_t record, size_t start,
+                                 size_t end, uint64_t cap, size_t list_len)
+{
+    size_t n = end - start;
+    uint8_t *part = lend_bytes(a.bytes + start, n);
+    uint32_t *list = lend_list(list_len), *alone = lend_list(list_len);
+    poqewan_report r = record_searches[search](*pattern, a.bytes, a.len, record, cap, list, list_len);
+    poqewan_report rules = by_rules(search, pattern, part, n, cap, list_len);
+    poqewan_report same = searches[search](*pattern, part, n, cap, alone, list_len);
+
+    CHECK(is_report(r, rules.ending, rules.window, counts_of(rules), rules.written));
+    CHECK(is_report(r, same.ending, same.window, counts_of(same), same.written));
+    CHECK(r.written <= list_len && unwritten(list, r.written, list_len));
+    CHECK(lists_occurrences(list, r.written, pattern, part, n, r.ending == POQEWAN_DONE ? n : r.window));
+    CHECK(list_len == 0 || memcmp(list, alone, list_len * sizeof *list) == 0);
+    CHECK(under_ceiling(search, r, pattern->len, n));
+    free(alone);
+    free(list);
+    free(part);
+    return r;
+}
+
+/* Asks for an archive's directory, for one record, and for a pattern in it, by that pattern and by a false one, and checks all
+   answers against the archive read again. Gives what is to be told of the record by a search: a refusal, or 0 if it is there,
+   or NOT_THERE. */
+#define NOT_THERE 100
+
+static uint32_t check_archive(const poqewan_pattern *pattern, struct archive a, uint64_t record, uint64_t cap,
+                              size_t list_len)
+{
+    struct reading reading = read_again(a.bytes, a.len);
+    bool found = reading.refusal == 0 && record < reading.records;
+    uint64_t start = found ? start_of(a.bytes, reading.start, record) : 0;
+    uint64_t end = found ? end_of(a.bytes, reading.start, record) : 0;
+    CHECK(is_directory(poqewan_read_directory(a.bytes, a.len), reading.refusal, reading.records, reading.start));
+    CHECK(is_bounds(poqewan_find_record(a.bytes, a.len, record), reading.refusal, found, start, end));
+    CHECK(start <= end && end <= a.len);
+
+    poqewan_pattern wrong = *pattern;
+    wrong.noholes++;
+    check_not_searched(&wrong, a, record, POQEWAN_FALSE_PATTERN, 0);
+    if (reading.refusal != 0) {
+        check_not_searched(pattern, a, record, reading.refusal, 0);
+        return reading.refusal;
+    }
+    if (!found) {
+        check_not_searched(pattern, a, record, 0, POQEWAN_NO_SUCH_RECORD);
+        return NOT_THERE;
+    }
+    for (int s = 0; s < SEARCHES; s++)
+        check_part(s, pattern, a, record, start, end, cap, list_len);
+    return 0;
+}
+
+/* The archive must be refused with this number by all, whatever record is asked for; a false pattern is told before. */
+static void check_refused_archive(struct archive a, uint32_t number)
+{
+    static const uint64_t asked[] = {0, 1, POQEWAN_MOST_RECORDS, UINT64_MAX};
+    poqewan_pattern pattern = prepared("aba");
+    CHECK(is_directory(poqewan_read_directory(a.bytes, a.len), number, 0, 0));
+    for (size_t i = 0; i < sizeof asked / sizeof *asked; i++)
+        CHECK(check_archive(&pattern, a, asked[i], UINT64_MAX, 4) == number);
+}
+
+/* Three records, aba, an empty one and ba, byte by byte as the request has it. */
+static const uint8_t worked_archive[] = {
+    'a', 'b', 'a', 'b', 'a',
+    0, 0, 0, 0, 3, 0, 0, 0,
+    3, 0, 0, 0, 0, 0, 0, 0,
+    3, 0, 0, 0, 2, 0, 0, 0,
+    5, 0, 0, 0, 3, 0, 0, 0, 0x52, 0x45, 0x45, 0x4C,
+};
+static const uint32_t worked_lengths[] = {3, 0, 2};
+
+/* Worked by hand from document 01's rules. In the five bytes together there are ab at 2, aba at 2, and bab at 1, each of them
+   across the border of two records. */
+static const struct part {
+    const char *pattern;
+    uint64_t record;
+    size_t written;
+    uint32_t positions[2];
+    struct counts counts[SEARCHES];
+} parts[] = {
+    {"a", 0, 2, {0, 2}, {{3, 0, 3}, {3, 0, 3}}},
+    {"a", 1, 0, {0}, {{0, 0, 0}, {0, 0, 0}}},
+    {"a", 2, 1, {1}, {{2, 0, 2}, {2, 0, 2}}},
+    {"ba", 0, 1, {1}, {{3, 2, 1}, {3, 1, 2}}},
+    {"ba", 1, 0, {0}, {{0, 0, 0}, {0, 0, 0}}},
+    {"ba", 2, 1, {0}, {{2, 1, 1}, {2, 1, 1}}},
+    {"ab", 0, 1, {0}, {{2, 1, 1}, {2, 1, 1}}},
+    {"ab", 1, 0, {0}, {{0, 0, 0}, {0, 0, 0}}},
+    {"ab", 2, 0, {0}, {{1, 1, 0}, {1, 0, 1}}},
+    {"bab", 0, 0, {0}, {{1, 1, 0}, {1, 0, 1}}},
+    {"bab", 1, 0, {0}, {{0, 0, 0}, {0, 0, 0}}},
+    {"bab", 2, 0, {0}, {{0, 0, 0}, {0, 0, 0}}},
+    {"aba", 0, 1, {0}, {{3, 1, 2}, {3, 1, 2}}},
+    {"aba", 1, 0, {0}, {{0, 0, 0}, {0, 0, 0}}},
+    {"aba", 2, 0, {0}, {{0, 0, 0}, {0, 0, 0}}},
+};
+
+static void test_worked_archive(void)
+{
+    struct archive a = lend_copy(worked_archive, sizeof worked_archive), packed = pack("ababa", worked_lengths, 3);
+    CHECK(packed.len == sizeof worked_archive && memcmp(packed.bytes, worked_archive, packed.len) == 0);
+    CHECK(is_directory(poqewan_read_directory(a.bytes, a.len), 0, 3, 5));
+    CHECK(is_bounds(poqewan_find_record(a.bytes, a.len, 0), 0, 1, 0, 3));
+    CHECK(is_bounds(poqewan_find_record(a.bytes, a.len, 1), 0, 1, 3, 3));
+    CHECK(is_bounds(poqewan_find_record(a.bytes, a.len, 2), 0, 1, 3, 5));
+    CHECK(is_bounds(poqewan_find_record(a.bytes, a.len, 3), 0, 0, 0, 0));
+    for (size_t i = 0; i < sizeof parts / sizeof *parts; i++)
+        for (int s = 0; s < SEARCHES; s++) {
+            const struct part *part = &parts[i];
+            uint32_t *list = lend_list(LONG_LIST);
+            poqewan_pattern pattern = prepared(part->pattern);
+            poqewan_report r = record_searches[s](pattern, a.bytes, a.len, part->record, UINT64_MAX, list, LONG_LIST);
+            CHECK(is_report(r, POQEWAN_DONE, 0, part->counts[s], part->written));
+            CHECK(memcmp(list, part->positions, part->written * sizeof *list) == 0);
+            CHECK(unwritten(list, part->written, LONG_LIST));
+            check_not_searched(&pattern, a, 3, 0, POQEWAN_NO_SUCH_RECORD);
+            free(list);
+        }
+    CHECK(memcmp(a.bytes, worked_archive, a.len) == 0);
+    free(packed.bytes);
+    free(a.bytes);
+}
+
+/* The text of a worked record, with its literal answer, as the only record of an archive; and between others that hold the
+   pattern, with an empty one before it and another after. */
+static void check_record_in_archives(const struct record *w, const uint8_t *classes)
+{
+    poqewan_pattern pattern = prepared_by(classes, w->pattern);
+    size_t m = strlen(w->pattern), n = strlen(w->text);
+    uint32_t lengths[] = {(uint32_t)m, 0, (uint32_t)n, 0, (uint32_t)m};
+    uint8_t *bytes = lend(m + n + m);
+    memcpy(bytes, w->pattern, m);
+    memcpy(bytes + m, w->text, n);
+    memcpy(bytes + m + n, w->pattern, m);
+    struct archive only = pack(w->text, &lengths[2], 1), between = pack(bytes, lengths, 5);
+    for (int s = 0; s < SEARCHES; s++)
+        for (int i = 0; i < 2; i++) {
+            struct archive a = i == 0 ? only : between;
+            uint32_t *list = lend_list(w->list_len);
+            poqewan_report r = record_searches[s](pattern, a.bytes, a.len, i == 0 ? 0 : 2, w->cap, list, w->list_len);
+            CHECK(is_report(r, w->ending, w->window, w->counts[s], w->written));
+            CHECK(memcmp(list, w->positions, w->written * sizeof *list) == 0);
+            CHECK(unwritten(list, w->written, w->list_len));
+            free(list);
+        }
+    free(between.bytes);
+    free(only.bytes);
+    free(bytes);
+}
+
+static void test_worked_records_in_archives(void)
+{
+    for (size_t i = 0; i < sizeof records / sizeof *records; i++)
+        check_record_in_archives(&records[i], own);
+    for (size_t i = 0; i < sizeof more_records / sizeof *more_records; i++)
+        check_record_in_archives(&more_records[i], own);
+    for (size_t i = 0; i < sizeof joined_records / sizeof *joined_records; i++)
+        check_record_in_archives(&joined_records[i], joined);
+}
+
+/* Archives by their parts, and what is told of each. */
+static const struct layout {
+    const char *bytes;
+    size_t entries_len;
+    struct entry entries[3];
+    uint32_t start, records, refusal;
+} layouts[] = {
+    /* No records; the directory starts at 0, and elsewhere. */
+    {"", 0, {{0, 0}}, 0, 0, 0},
+    {"a", 0, {{0, 0}}, 1, 0, POQEWAN_RECORDS_APART},
+    {"a", 0, {{0, 0}}, 0, 0, POQEWAN_FALSE_DIRECTORY},
+    {"", 0, {{0, 0}}, 1, 0, POQEWAN_FALSE_DIRECTORY},
+    {"abababab", 0, {{0, 0}}, 8, 0, POQEWAN_RECORDS_APART},
+    /* Empty records: one, all, the first, the last. */
+    {"", 1, {{0, 0}}, 0, 1, 0},
+    {"", 3, {{0, 0}, {0, 0}, {0, 0}}, 0, 3, 0},
+    {"ab", 2, {{0, 0}, {0, 2}}, 2, 2, 0},
+    {"ab", 2, {{0, 2}, {2, 0}}, 2, 2, 0},
+    {"ab", 3, {{0, 0}, {0, 2}, {2, 0}}, 2, 3, 0},
+    /* An empty record that lies elsewhere. */
+    {"ab", 2, {{1, 0}, {0, 2}}, 2, 2, POQEWAN_RECORDS_APART},
+    {"ab", 2, {{0, 2}, {1, 0}}, 2, 2, POQEWAN_RECORDS_APART},
+    {"ab", 2, {{0, 2}, {0, 0}}, 2, 2, POQEWAN_RECORDS_APART},
+    {"", 1, {{1, 0}}, 0, 1, POQEWAN_RECORDS_APART},
+    /* The first record starts one byte late. */
+    {"abcd", 1, {{1, 3}}, 4, 1, POQEWAN_RECORDS_APART},
+    {"abcd", 2, {{1, 1}, {2, 2}}, 4, 2, POQEWAN_RECORDS_APART},
+    /* The last record ends at the directory's start, one byte before, and one after. */
+    {"abcd", 1, {{0, 4}}, 4, 1, 0},
+    {"abcd", 1, {{0, 3}}, 4, 1, POQEWAN_RECORDS_APART},
+    {"abcd", 1, {{0, 5}}, 4, 1, POQEWAN_RECORDS_APART},
+    {"abcd", 2, {{0, 2}, {2, 2}}, 4, 2, 0},
+    {"abcd", 2, {{0, 2}, {2, 1}}, 4, 2, POQEWAN_RECORDS_APART},
+    {"abcd", 2, {{0, 2}, {2, 3}}, 4, 2, POQEWAN_RECORDS_APART},
+    {"", 1, {{0, 1}}, 0, 1, POQEWAN_RECORDS_APART},
+    /* A gap and an overlap; the same where the lengths still add up; and records in another order. */
+    {"abcd", 2, {{0, 1}, {2, 2}}, 4, 2, POQEWAN_RECORDS_APART},
+    {"abcd", 2, {{0, 3}, {2, 2}}, 4, 2, POQEWAN_RECORDS_APART},
+    {"abcd", 2, {{0, 2}, {3, 2}}, 4, 2, POQEWAN_RECORDS_APART},
+    {"abcd", 2, {{0, 2}, {1, 2}}, 4, 2, POQEWAN_RECORDS_APART},
+    {"abcd", 3, {{0, 1}, {2, 1}, {2, 2}}, 4, 3, POQEWAN_RECORDS_APART},
+    {"abcd", 2, {{2, 2}, {0, 2}}, 4, 2, POQEWAN_RECORDS_APART},
+    {"abcd", 3, {{0, 1}, {2, 2}, {1, 1}}, 4, 3, POQEWAN_RECORDS_APART},
+    /* The directory's start and the number of records do not meet: by one record, by one byte, either way. */
+    {"abcd", 1, {{0, 4}}, 4, 0, POQEWAN_FALSE_DIRECTORY},
+    {"abcd", 1, {{0, 4}}, 4, 2, POQEWAN_FALSE_DIRECTORY},
+    {"abcd", 1, {{0, 4}}, 3, 1, POQEWAN_FALSE_DIRECTORY},
+    {"abcd", 1, {{0, 4}}, 5, 1, POQEWAN_FALSE_DIRECTORY},
+    {"abcd", 1, {{0, 4}}, 12, 1, POQEWAN_FALSE_DIRECTORY},
+    {"abcd", 1, {{0, 4}}, 12, 0, POQEWAN_RECORDS_APART},
+    /* The greatest numbers. */
+    {"abcd", 1, {{0, 4}}, UINT32_MAX, 1, POQEWAN_FALSE_DIRECTORY},
+    {"abcd", 1, {{0, 4}}, 4, UINT32_MAX, POQEWAN_FALSE_DIRECTORY},
+    {"abcd", 1, {{0, 4}}, UINT32_MAX, UINT32_MAX, POQEWAN_FALSE_DIRECTORY},
+    {"", 0, {{0, 0}}, UINT32_MAX, 0, POQEWAN_FALSE_DIRECTORY},
+    {"", 0, {{0, 0}}, 0, UINT32_MAX, POQEWAN_FALSE_DIRECTORY},
+    {"abcd", 1, {{UINT32_MAX, 4}}, 4, 1, POQEWAN_RECORDS_APART},
+    {"abcd", 1, {{0, UINT32_MAX}}, 4, 1, POQEWAN_RECORDS_APART},
+    {"abcd", 1, {{UINT32_MAX, 5}}, 4, 1, POQEWAN_RECORDS_APART},
+    /* Sums that would be right modulo 2^32: of the directory's start and size, of its size alone, and of the lengths. */
+    {"", 0, {{0, 0}}, UINT32_MAX - 7, 1, POQEWAN_FALSE_DIRECTORY},
+    {"abcdefg", 0, {{0, 0}}, UINT32_MAX, 1, POQEWAN_FALSE_DIRECTORY},
+    {"", 1, {{0, 0}}, UINT32_MAX - 7, 2, POQEWAN_FALSE_DIRECTORY},
+    {"", 0, {{0, 0}}, UINT32_MAX - 4096 * 8 + 1, 4096, POQEWAN_FALSE_DIRECTORY},
+    {"", 0, {{0, 0}}, 0, UINT32_C(1) << 29, POQEWAN_FALSE_DIRECTORY},
+    {"abcd", 1, {{0, 4}}, 4, (UINT32_C(1) << 29) + 1, POQEWAN_FALSE_DIRECTORY},
+    {"abcd", 1, {{0, 4}}, 4, (UINT32_C(1) << 31) + 1, POQEWAN_FALSE_DIRECTORY},
+    {"abcd", 2, {{0, UINT32_MAX}, {UINT32_MAX, 5}}, 4, 2, POQEWAN_RECORDS_APART},
+    {"abcd", 3, {{0, UINT32_MAX}, {UINT32_MAX, 1}, {0, 4}}, 4, 3, POQEWAN_RECORDS_APART},
+    {"abcd", 3, {{0, 2}, {2, UINT32_MAX}, {1, 3}}, 4, 3, POQEWAN_RECORDS_APART},
+    {"abcd", 3, {{0, UINT32_C(1) << 31}, {UINT32_C(1) << 31, UINT32_C(1) << 31}, {0, 4}}, 4, 3, POQEWAN_RECORDS_APART},
+    /* Records that lie in the directory, or past the archive, and come back. */
+    {"abcd", 2, {{0, 20}, {20, 0}}, 4, 2, POQEWAN_RECORDS_APART},
+    {"abcd", 2, {{0, 1000}, {1000, 0}}, 4, 2, POQEWAN_RECORDS_APART},
+};
+
+static void test_layouts(void)
+{
+    poqewan_pattern pattern = prepared("ab");
+    for (size_t i = 0; i < sizeof layouts / sizeof *layouts; i++) {
+        const struct layout *l = &layouts[i];
+        struct archive a = lend_archive(l->bytes, strlen(l->bytes), l->entries, l->entries_len, l->start, l->records);
+        if (l->refusal != 0) {
+            check_refused_archive(a, l->refusal);
+        } else {
+            CHECK(is_directory(poqewan_read_directory(a.bytes, a.len), 0, l->records, l->start));
+            for (uint64_t record = 0; record < l->records; record++) {
+                struct entry e = l->entries[record];
+                CHECK(is_bounds(poqewan_find_record(a.bytes, a.len, record), 0, 1, e.start, e.start + e.len));
+                CHECK(check_archive(&pattern, a, record, UINT64_MAX, 4) == 0);
+            }
+            CHECK(check_archive(&pattern, a, l->records, UINT64_MAX, 4) == NOT_THERE);
+        }
+        free(a.bytes);
+    }
+}
+
+/* Of the archive without records, 12 bytes, each end that is shorter; and with bytes before it. */
+static void test_short_archives(void)
+{
+    static const uint8_t empty[TRAILER] = {0, 0, 0, 0, 0, 0, 0, 0, 0x52, 0x45, 0x45, 0x4C};
+    static const uint8_t longer[TRAILER + 1] = {'a', 1, 0, 0, 0, 0, 0, 0, 0, 0x52, 0x45, 0x45, 0x4C};
+    for (size_t len = 0; len < TRAILER; len++) {
+        struct archive a = lend_copy(empty + TRAILER - len, len);
+        check_refused_archive(a, POQEWAN_NO_TRAILER);
+        free(a.bytes);
+    }
+    struct archive a = lend_copy(empty, sizeof empty);
+    poqewan_pattern pattern = prepared("a");
+    CHECK(is_directory(poqewan_read_directory(a.bytes, a.len), 0, 0, 0));
+    CHECK(check_archive(&pattern, a, 0, UINT64_MAX, 4) == NOT_THERE);
+    CHECK(check_archive(&pattern, a, UINT64_MAX, UINT64_MAX, 4) == NOT_THERE);
+    free(a.bytes);
+    a = lend_copy(longer, sizeof longer);
+    check_refused_archive(a, POQEWAN_RECORDS_APART);
+    a.bytes[1] = 0;
+    check_refused_archive(a, POQEWAN_FALSE_DIRECTORY);
+    free(a.bytes);
+}
+
+/* Each closing byte with each other value; two of them exchanged; all from the last to the first; and small letters. */
+static void test_closing_bytes(void)
+{
+    struct archive a = lend_copy(worked_archive, sizeof worked_archive);
+    uint8_t *end = a.bytes + a.len - sizeof closing;
+    for (size_t i = 0; i < sizeof closing; i++)
+        for (unsigned change = 1; change < 256; change++) {
+            end[i] = (uint8_t)(closing[i] ^ change);
+            CHECK(is_directory(poqewan_read_directory(a.bytes, a.len), POQEWAN_NO_TRAILER, 0, 0));
+            if ((change & (change - 1)) == 0)
+                check_refused_archive(a, POQEWAN_NO_TRAILER);
+            end[i] = closing[i];
+        }
+    memcpy(end, "\x45\x52\x45\x4C", 4);
+    check_refused_archive(a, POQEWAN_NO_TRAILER);
+    memcpy(end, "\x4C\x45\x45\x52", 4);
+    check_refused_archive(a, POQEWAN_NO_TRAILER);
+    memcpy(end, "reel", 4);
+    check_refused_archive(a, POQEWAN_NO_TRAILER);
+    free(a.bytes);
+}
+
+/* Record numbers that are not there, such as would be if they lost their upper half, or if eight times the number did. */
+static void test_record_numbers(void)
+{
+    static const uint64_t numbers[] = {3, 4, 255, 256, 4095, 4096, 65536, UINT32_MAX, UINT64_C(1) << 32,
+                                       (UINT64_C(1) << 32) + 2, UINT64_C(1) << 61, (UINT64_C(1) << 61) + 2,
+                                       UINT64_C(1) << 63, UINT64_MAX - 1, UINT64_MAX};
+    struct archive a = lend_copy(worked_archive, sizeof worked_archive);
+    poqewan_pattern pattern = prepared("a");
+    for (size_t i = 0; i < sizeof numbers / sizeof *numbers; i++) {
+        CHECK(is_bounds(poqewan_find_record(a.bytes, a.len, numbers[i]), 0, 0, 0, 0));
+        check_not_searched(&pattern, a, numbers[i], 0, POQEWAN_NO_SUCH_RECORD);
+        CHECK(check_archive(&pattern, a, numbers[i], UINT64_MAX, 4) == NOT_THERE);
+    }
+    free(a.bytes);
+}
+
+/* With a number of 0 the pointer is not followed: neither of the archive nor of the list. */
+static void test_null_archive(void)
+{
+    struct archive null = {NULL, 0}, a = lend_copy(worked_archive, sizeof worked_archive);
+    poqewan_pattern pattern = prepared("a"), wrong = pattern;
+    wrong.noholes++;
+    CHECK(is_directory(poqewan_read_directory(NULL, 0), POQEWAN_NO_TRAILER, 0, 0));
+    CHECK(is_bounds(poqewan_find_record(NULL, 0, 0), POQEWAN_NO_TRAILER, 0, 0, 0));
+    check_not_searched(&pattern, null, 0, POQEWAN_NO_TRAILER, 0);
+    check_not_searched(&wrong, null, 0, POQEWAN_FALSE_PATTERN, 0);
+    for (int s = 0; s < SEARCHES; s++) {
+        record_function *search = record_searches[s];
+        CHECK(is_refusal(search(pattern, NULL, 0, 0, 0, NULL, 0), POQEWAN_NO_TRAILER));
+        CHECK(is_refusal(search(wrong, a.bytes, a.len, 3, 0, NULL, 0), POQEWAN_FALSE_PATTERN));
+        CHECK(is_report(search(pattern, a.bytes, a.len, 3, 0, NULL, 0), POQEWAN_NO_SUCH_RECORD, 0, none, 0));
+        CHECK(is_report(search(pattern, a.bytes, a.len, 1, 0, NULL, 0), POQEWAN_DONE, 0, none, 0));
+        CHECK(is_report(search(pattern, a.bytes, a.len, 0, 0, NULL, 0), POQEWAN_SPENT, 0, none, 0));
+        CHECK(is_report(search(pattern, a.bytes, a.len, 0, 1, NULL, 0), POQEWAN_FULL, 0, (struct counts){1, 0, 1}, 0));
+    }
+    free(a.bytes);
+}
+
+/* Every choice of the six conditions: the first of them, in the order of the tests, is what is told. */
+static void test_order_of_archive_tests(void)
+{
+    enum { IS_FALSE = 1, IS_LONG = 2, NOT_CLOSED = 4, ONE_MORE = 8, APART = 16, PAST = 32, ALL = 63 };
+    static const uint32_t refusals[] = {4, 5, 7, 8, 9};
+    poqewan_pattern pattern = prepared("ab"), wrong = pattern;
+    wrong.noholes++;
+    for (int is_long = 0; is_long <= IS_LONG; is_long += IS_LONG) {
+        size_t len = is_long ? POQEWAN_LONGEST_TEXT + 1 : 100, directory = len - TRAILER - 2 * ENTRY;
+        struct archive a = {lend(len), len};
+        memset(a.bytes, 'a', directory);
+        for (int chosen = is_long; chosen <= ALL; chosen++) {
+            if ((chosen & IS_LONG) != is_long)
+                continue;
+            put_number(a.bytes + directory, 0);
+            put_number(a.bytes + directory + 4, 2);
+            put_number(a.bytes + directory + 8, chosen & APART ? 3 : 2);
+            put_number(a.bytes + directory + 12, (uint32_t)directory - 2);
+            put_number(a.bytes + len - 12, (uint32_t)directory);
+            put_number(a.bytes + len - 8, chosen & ONE_MORE ? 3 : 2);
+            memcpy(a.bytes + len - 4, chosen & NOT_CLOSED ? "reel" : "REEL", 4);
+            uint64_t record = chosen & PAST ? 2 : 1;
+            uint32_t of_search = 0, of_archive = 0;
+            for (int i = 4; i >= 0; i--)
+                if (chosen & 1 << i) {
+                    of_search = refusals[i];
+                    of_archive = i > 0 ? refusals[i] : of_archive;
+                }
+            bool read = of_archive == 0, found = read && record < 2;
+            CHECK(is_directory(poqewan_read_directory(a.bytes, len), of_archive, read ? 2 : 0, read ? directory : 0));
+            CHECK(is_bounds(poqewan_find_record(a.bytes, len, record), of_archive, found, found ? 2 : 0,
+                            found ? directory : 0));
+            const poqewan_pattern *asked = chosen & IS_FALSE ? &wrong : &pattern;
+            if (of_search != 0 || !found)
+                check_not_searched(asked, a, record, of_search, of_search == 0 ? POQEWAN_NO_SUCH_RECORD : 0);
+            else
+                CHECK(check_archive(asked, a, record, UINT64_MAX, 4) == 0);
+        }
+        free(a.bytes);
+    }
+}
+
+/* Three records of five bytes, with the borders anywhere, in a quick run for one pattern; and what is left of the worked archive
+   if its start or its end is missing, or a byte more is there. */
+static void test_cuts(bool quick)
+{
+    static const char *const patterns[] = {"ab", "a", "ba", "aba", "bab"};
+    static const uint64_t caps[] = {0, 1, 2, 3, 4, 5, UINT64_C(1) << 32}; /* the last is 0 in its lower half */
+    for (size_t i = 0; i < (quick ? 1 : sizeof patterns / sizeof *patterns); i++) {
+        poqewan_pattern pattern = prepared(patterns[i]);
+        for (uint32_t one = 0; one <= 5; one++)
+            for (uint32_t two = 0; one + two <= 5; two++) {
+                uint32_t lengths[] = {one, two, 5 - one - two};
+                struct archive a = pack("ababa", lengths, 3);
+                for (uint64_t record = 0; record <= 3; record++)
+                    for (size_t list_len = 0; list_len <= 3; list_len++)
+                        for (size_t c = 0; c < sizeof caps / sizeof *caps; c++)
+                            CHECK(check_archive(&pattern, a, record, caps[c], list_len) == (record < 3 ? 0 : NOT_THERE));
+                free(a.bytes);
+            }
+    }
+    uint8_t more[sizeof worked_archive + 2];
+    memset(more, 0, sizeof more);
+    memcpy(more + 1, worked_archive, sizeof worked_archive);
+    poqewan_pattern pattern = prepared("ba");
+    for (size_t from = 0; from <= sizeof more; from++)
+        for (size_t to = from; to <= sizeof more; to++) {
+            struct archive a = lend_copy(more + from, to - from);
+            uint32_t told = check_archive(&pattern, a, 2, UINT64_MAX, 4);
+            CHECK(from == 1 && to == sizeof more - 1 ? told == 0 : told != 0 && told != NOT_THERE);
+            free(a.bytes);
+        }
+}
+
+/* Each byte of small archives with each other value, or in a quick run with one bit changed. */
+static void test_damaged_archives(bool quick)
+{
+    static const struct {
+        const char *bytes;
+        size_t records;
+        uint32_t lengths[3];
+    } whole[] = {{"ababa", 3, {3, 0, 2}}, {"aab", 1, {3}}, {"", 2, {0, 0}}, {"", 0, {0}}};
+    poqewan_pattern pattern = prepared("ba");
+    size_t told[NOT_THERE + 1] = {0};
+    for (size_t i = 0; i < sizeof whole / sizeof *whole; i++) {
+        struct archive a = pack(whole[i].bytes, whole[i].lengths, whole[i].records);
+        for (size_t at = 0; at < a.len; at++)
+            for (unsigned change = 1; change < 256; change++) {
+                if (quick && (change & (change - 1)) != 0)
+                    continue;
+                a.bytes[at] ^= (uint8_t)change;
+                for (uint64_t record = 0; record <= whole[i].records; record++)
+                    told[check_archive(&pattern, a, record, UINT64_MAX, 4)]++;
+                a.bytes[at] ^= (uint8_t)change;
+            }
+        free(a.bytes);
+    }
+    CHECK(told[POQEWAN_NO_TRAILER] > 0 && told[POQEWAN_FALSE_DIRECTORY] > 0 && told[POQEWAN_RECORDS_APART] > 0);
+    CHECK(told[0] > 0 && told[NOT_THERE] > 0);
+}
+
+/* The lengths 0, 1 and 2 in turn, so that record 3 * i starts at 3 * i. */
+static void fill_lengths(uint32_t *lengths, size_t records)
+{
+    for (size_t r = 0; r < records; r++)
+        lengths[r] = (uint32_t)(r % 3);
+}
+
+/* 4,096 records are accepted and 4,097 are not. Each is found, and a start or a length that is one off is found in each, or in
+   a quick run in some. */
+static void test_most_records(bool quick)
+{
+    enum { MOST = 4096, BYTES = 4095 };
+    static uint32_t lengths[MOST + 1], no_lengths[MOST + 1];
+    static uint8_t bytes[BYTES + 2];
+    random_letters(bytes, sizeof bytes, 2);
+    fill_lengths(lengths, MOST + 1);
+    poqewan_pattern pattern = prepared("ab");
+
+    struct archive a = pack(bytes, lengths, MOST);
+    CHECK(is_directory(poqewan_read_directory(a.bytes, a.len), 0, MOST, BYTES));
+    CHECK(is_bounds(poqewan_find_record(a.bytes, a.len, MOST), 0, 0, 0, 0));
+    CHECK(check_archive(&pattern, a, MOST, UINT64_MAX, 4) == NOT_THERE);
+    for (size_t r = 0; r < MOST; r += quick ? 315 : 1) {
+        size_t start = r / 3 * 3 + (r % 3 == 2);
+        uint8_t *entry = a.bytes + BYTES + ENTRY * r;
+        CHECK(is_bounds(poqewan_find_record(a.bytes, a.len, r), 0, 1, start, start + r % 3));
+        if (r % 63 == 0)
+            CHECK(check_archive(&pattern, a, r, UINT64_MAX, 4) == 0);
+        put_number(entry, (uint32_t)start + 1);
+        CHECK(is_directory(poqewan_read_directory(a.bytes, a.len), POQEWAN_RECORDS_APART, 0, 0));
+        put_number(entry, (uint32_t)start);
+        put_number(entry + 4, (uint32_t)(r % 3 + 1));
+        CHECK(is_directory(poqewan_read_directory(a.bytes, a.len), POQEWAN_RECORDS_APART, 0, 0));
+        put_number(entry + 4, (uint32_t)(r % 3));
+    }
+    /* The trailer has one record more than the directory, and one less. */
+    put_number(a.bytes + a.len - 8, MOST + 1);
+    check_refused_archive(a, POQEWAN_FALSE_DIRECTORY);
+    put_number(a.bytes + a.len - 8, MOST - 1);
+    check_refused_archive(a, POQEWAN_FALSE_DIRECTORY);
+    free(a.bytes);
+
+    a = pack(bytes, lengths, MOST + 1);
+    check_refused_archive(a, POQEWAN_FALSE_DIRECTORY);
+    a.bytes[BYTES + lengths[MOST]] ^= 1; /* of the first start */
+    check_refused_archive(a, POQEWAN_FALSE_DIRECTORY);
+    free(a.bytes);
+
+    a = pack(NULL, no_lengths, MOST);
+    CHECK(is_directory(poqewan_read_directory(a.bytes, a.len), 0, MOST, 0));
+    CHECK(check_archive(&pattern, a, 0, 0, 4) == 0 && check_archive(&pattern, a, MOST - 1, 0, 4) == 0);
+    CHECK(check_archive(&pattern, a, MOST, 0, 4) == NOT_THERE);
+    free(a.bytes);
+    a = pack(NULL, no_lengths, MOST + 1);
+    check_refused_archive(a, POQEWAN_FALSE_DIRECTORY);
+    free(a.bytes);
+}
+
+/* A byte of the directory or the trailer drawn anew; one of their numbers one off; a byte more or less before the directory, which
+   may be known to its start; or one record more and a start that meets it, perhaps only modulo 2^32. */
+static struct archive damage(struct archive a, size_t directory)
+{
+    size_t numbers = (a.len - directory - sizeof closing) / 4;
+    uint8_t *number = a.bytes + directory + 4 * random_below(numbers);
+    switch (random_below(4)) {
+    case 0:
+        a.bytes[directory + random_below(a.len - directory)] = (uint8_t)random_number();
+        return a;
+    case 1:
+        put_number(number, (uint32_t)(number_at(number) + (random_below(2) ? 1 : UINT32_MAX)));
+        return a;
+    case 2: {
+        struct archive other = {NULL, random_below(2) || directory == 0 ? a.len + 1 : a.len - 1};
+        other.bytes = lend(other.len);
+        memset(other.bytes, 'a', directory + 1);
+        size_t rest = a.len - directory;
+        memcpy(other.bytes + other.len - rest, a.bytes + directory, rest);
+        if (random_below(2))
+            put_number(other.bytes + other.len - 12, (uint32_t)(other.len - rest));
+        free(a.bytes);
+        return other;
+    }
+    default:
+        put_number(a.bytes + a.len - 12, (uint32_t)(directory - ENTRY));
+        put_number(a.bytes + a.len - 8, (uint32_t)(number_at(a.bytes + a.len - 8) + 1));
+        return a;
+    }
+}
+
+/* Archives of a few records, with a pattern, a record, a cap and a list drawn by lot; every second one is damaged. */
+static void test_random_archives(size_t rounds)
+{
+    size_t told[NOT_THERE + 1] = {0};
+    for (size_t round = 0; round < rounds; round++) {
+        uint32_t lengths[6];
+        uint8_t bytes[6 * 12], word[6];
+        size_t records = random_below(7), total = 0, letters = 1 + random_below(2), m = 1 + random_below(4);
+        for (size_t r = 0; r < records; r++) {
+            lengths[r] = (uint32_t)(random_below(3) == 0 ? 0 : random_below(13));
+            total += lengths[r];
+        }
+        random_letters(bytes, total, letters);
+        random_letters(word, m, letters);
+        poqewan_pattern pattern = prepare(word, m, POQEWAN_SCRATCH, 0).pattern;
+        struct archive a = pack(bytes, lengths, records);
+        if (round % 2 == 1)
+            a = damage(a, total);
+        uint64_t cap = random_below(3) == 0 ? random_below(12) : UINT64_MAX;
+        told[check_archive(&pattern, a, random_below(records + 2), cap, random_below(8))]++;
+        free(a.bytes);
+    }
+    CHECK(told[POQEWAN_NO_TRAILER] > 0 && told[POQEWAN_FALSE_DIRECTORY] > 0 && told[POQEWAN_RECORDS_APART] > 0);
+    CHECK(told[0] > 0 && told[NOT_THERE] > 0);
+}
+
+/* An archive of the greatest length is accepted, and one of a byte more is not. Three records: the second has nearly all bytes,
+   and an occurrence in its last window; its search is left out in a quick run. In the third, ab in aab: place 1, a miss at the
+   only nohole, then places 1 and 0; and by Knuth, Morris and Pratt place 0, the miss at place 1, then both again. */
+static void test_longest_archive(bool quick)
+{
+    static const struct counts last[SEARCHES] = {{3, 2, 1}, {4, 2, 2}};
+    for (size_t len = POQEWAN_LONGEST_TEXT - 1; len <= POQEWAN_LONGEST_TEXT + 1; len++) {
+        size_t directory = len - TRAILER - 3 * ENTRY, n = directory - 5;
+        struct entry entries[] = {{0, 2}, {2, (uint32_t)n}, {2 + (uint32_t)n, 3}};
+        uint8_t *bytes = lend(directory);
+        memset(bytes, 'a', directory);
+        bytes[n + 1] = bytes[directory - 1] = 'b';
+        struct archive a = lend_archive(bytes, directory, entries, 3, (uint32_t)directory, 3);
+        free(bytes);
+        if (len > POQEWAN_LONGEST_TEXT) {
+            check_refused_archive(a, POQEWAN_LONG_TEXT);
+            free(a.bytes);
+            continue;
+        }
+        CHECK(is_directory(poqewan_read_directory(a.bytes, len), 0, 3, directory));
+        CHECK(is_bounds(poqewan_find_record(a.bytes, len, 0), 0, 1, 0, 2));
+        CHECK(is_bounds(poqewan_find_record(a.bytes, len, 1), 0, 1, 2, directory - 3));
+        CHECK(is_bounds(poqewan_find_record(a.bytes, len, 2), 0, 1, directory - 3, directory));
+        poqewan_pattern pattern = prepared("ab");
+        check_not_searched(&pattern, a, 3, 0, POQEWAN_NO_SUCH_RECORD);
+        for (int s = 0; s < SEARCHES; s++) {
+            uint32_t *list = lend_list(2);
+            poqewan_report r = record_searches[s](pattern, a.bytes, len, 2, UINT64_MAX, list, 2);
+            CHECK(is_report(r, POQEWAN_DONE, 0, last[s], 1));
+            CHECK(list[0] == 1 && unwritten(list, 1, 2));
+            if (!quick) {
+                r = record_searches[s](pattern, a.bytes, len, 1, UINT64_MAX, list, 2);
+                struct counts counts = {s == COLUSSI ? n : 2 * n - 2, n - 1, s == COLUSSI ? 1 : n - 1};
+                CHECK(is_report(r, POQEWAN_DONE, 0, counts, 1));
+                CHECK(list[0] == n - 2 && unwritten(list, 1, 2));
+            }
+            free(list);
+        }
+        free(a.bytes);
+    }
+}
+
 int main(int argc, char **argv)
 {
     bool quick = argc > 1 && strcmp(argv[1], "quick") == 0;
@@ -1210,6 +1962,19 @@ int main(int argc, char **argv)
     if (!quick)
         test_longest_list();
     test_long_text();
+    test_worked_archive();
+    test_worked_records_in_archives();
+    test_layouts();
+    test_short_archives();
+    test_closing_bytes();
+    test_record_numbers();
+    test_null_archive();
+    test_order_of_archive_tests();
+    test_cuts(quick);
+    test_damaged_archives(quick);
+    test_most_records(quick);
+    test_random_archives(quick ? 400 : 20000);
+    test_longest_archive(quick);
     printf("%lu checks, %lu failed\n", checks, failed);
     return failed == 0 ? EXIT_SUCCESS : EXIT_FAILURE;
 }

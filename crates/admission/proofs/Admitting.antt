@@ -9,8 +9,9 @@ use borrow.Author.Tests.{le-leb, lt-leb, leb-true}
 use Rattle.checked.specs.Check.{isPrepared}
 use Rattle.pattern.specs.declared.Pattern.{Pattern}
 use Rattle.checked.proofs.Checked.{is-prepared}
+use Rattle.refusal.specs.Unless.{unless}
 use Rattle.refusal.specs.declared.Refusal.the-variants.{FalsePattern, LongText}
-use Rattle.admission.specs.Admitted.{longestText, unless, judged, admitted, IsAdmitted}
+use Rattle.admission.specs.Admitted.{longestText, judged, admitted, IsAdmitted}
 use Rattle.admission.specs.declared.Admission.{Admission}
 use Rattle.admission.specs.declared.Admission.the-variants.{Admitted, Refused}
 
@@ -31,7 +32,7 @@ module _ {prepared : Bool} (n : ℕ) where
     lets-in l = rw (passes, le-leb n longestText l, judged) refl
 
 -- Both tests pass where nothing is refused.
-both-pass : (a b : Bool) → unless a FalsePattern (unless b LongText Admitted) ≡ Admitted → (a ≡ true) × (b ≡ true)
+both-pass : (a b : Bool) → unless a (Refused FalsePattern) (unless b (Refused LongText) Admitted) ≡ Admitted → (a ≡ true) × (b ≡ true)
 both-pass true true e = (refl, refl)
 both-pass true false e = absurd (let z : _≡_ {A = ℕ} 0 1 = cc in omega arith)
 both-pass false b e = absurd (let z : _≡_ {A = ℕ} 0 1 = cc in omega arith)

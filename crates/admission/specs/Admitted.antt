@@ -1,10 +1,10 @@
 -- Who is let in to a search: tests 4 and 5 of document 01's table "Turned away".
 use Prim.Native.Nat.{ℕ, _≤_}
-use mathlib.Core.Bool.{Bool, true, false}
+use mathlib.Core.Bool.{Bool}
 use lib.Dec.{leb}
 use Rattle.checked.specs.Check.{isPrepared, IsPrepared}
 use Rattle.pattern.specs.declared.Pattern.{Pattern}
-use Rattle.refusal.specs.declared.Refusal.{Refusal}
+use Rattle.refusal.specs.Unless.{unless}
 use Rattle.refusal.specs.declared.Refusal.the-variants.{FalsePattern, LongText}
 use Rattle.admission.specs.declared.Admission.{Admission}
 use Rattle.admission.specs.declared.Admission.the-variants.{Admitted, Refused}
@@ -13,15 +13,10 @@ use Rattle.admission.specs.declared.Admission.the-variants.{Admitted, Re
 abbrev pub longestText : ℕ
 longestText = 16777216
 
--- Refused, unless a test passes.
-abbrev pub unless : Bool → Refusal → Admission → Admission
-unless true why then = then
-unless false why then = Refused why
-
 -- Tests 4 and 5, in that order, of whether a pattern is prepared and a text of n bytes: the first that fails is the answer, by its number in
 -- document 01's table (`numberOf`).
 unfoldable pub judged : Bool → ℕ → Admission
-judged prepared n = unless prepared FalsePattern (unless (leb n longestText) LongText Admitted)
+judged prepared n = unless prepared (Refused FalsePattern) (unless (leb n longestText) (Refused LongText) Admitted)
 
 -- The answer to a pattern and a text of n bytes.
 unfoldable pub admitted : Pattern → ℕ → Admission

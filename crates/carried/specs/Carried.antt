@@ -1,5 +1,14 @@
 -- How answers cross to C: refusals and endings by number.
-use Prim.Native.Nat.{ℕ, zero, suc}
+use Prim.Native.Nat.{ℕ, zero, suc, _<_}
+use mathlib.Core.Path.{_≡_}
+use Rattle.archive.specs.declared.RecordAnswer.{RecordAnswer}
+use Rattle.archive.specs.declared.RecordAnswer.the-variants as records
+use Rattle.directory.specs.declared.Bounds.{Bounds}
+use Rattle.directory.specs.declared.BoundsAnswer.{BoundsAnswer}
+use Rattle.directory.specs.declared.BoundsAnswer.the-variants as bounds
+use Rattle.directory.specs.declared.Directory.{Directory}
+use Rattle.directory.specs.declared.DirectoryAnswer.{DirectoryAnswer}
+use Rattle.directory.specs.declared.DirectoryAnswer.the-variants as directories
 use Rattle.first.specs.declared.FirstAnswer.{FirstAnswer}
 use Rattle.first.specs.declared.FirstAnswer.the-variants.{At, Absent}
 use Rattle.first.specs.declared.FirstAnswer.the-variants as firsts
@@ -16,6 +25,8 @@ use Rattle.search.specs.declared.SearchAnswer.the-variants as answers
 use Rattle.carried.specs.declared.Preparation.{Preparation}
 use Rattle.carried.specs.declared.SearchReport.{SearchReport}
 use Rattle.carried.specs.declared.First.{First}
+use Rattle.carried.specs.declared.ArchiveDirectory.{ArchiveDirectory}
+use Rattle.carried.specs.declared.RecordBounds.{RecordBounds}
 
 -- 0, or the number of the refusal.
 abbrev pub outcomeNumber : Outcome → ℕ
@@ -49,10 +60,14 @@ carriedReport r = record {
   written = r .written;
 }
 
+-- Where nothing was searched, what is told, and all else is 0.
+abbrev pub unsearched : ℕ → ℕ → SearchReport
+unsearched refusal ending = record { refusal = refusal; ending = ending; window = 0; count = 0; noholes = 0; holes = 0; written = 0 }
+
 -- An answer: beside a refusal all else is 0.
 abbrev pub carried : SearchAnswer → SearchReport
 carried (Ran r) = carriedReport r
-carried (answers.Refused why) = record { refusal = numberOf why; ending = 0; window = 0; count = 0; noholes = 0; holes = 0; written = 0 }
+carried (answers.Refused why) = unsearched (numberOf why) 0
 
 -- Read back: the ending that a number and a window stand for, and the report.
 abbrev pub endingOf : ℕ → ℕ → Ending
@@ -82,3 +97,35 @@ foundAt (suc n) b count = At b count
 
 abbrev pub firstIn : First → FirstAnswer
 firstIn r = foundAt (r .found) (r .position) (r .count)
+
+-- ---- Archives
+
+-- The answer of the search of one record: no such record is an ending.
+abbrev pub noSuchRecord : ℕ
+noSuchRecord = 3
+
+abbrev pub carriedRecord : RecordAnswer → SearchReport
+carriedRecord (records.Ran r) = carriedReport r
+carriedRecord records.NoSuchRecord = unsearched 0 noSuchRecord
+carriedRecord (records.Refused why) = unsearched (numberOf why) 0
+
+-- A search ran: it was not refused, and there was a record. Its report is read back by reportIn.
+abbrev pub Searched : SearchReport → Type 0
+Searched r = (r .refusal ≡ 0) × (r .ending < noSuchRecord)
+
+-- The directory of an archive, and read back, beside refusal 0.
+abbrev pub carriedDirectory : DirectoryAnswer → ArchiveDirectory
+carriedDirectory (directories.Read d) = record { refusal = 0; records = d .records; start = d .start }
+carriedDirectory (directories.Refused why) = record { refusal = numberOf why; records = 0; start = 0 }
+
+abbrev pub directoryIn : ArchiveDirectory → Directory
+directoryIn r = record { start = r .start; records = r .records }
+
+-- The bounds of a record: found is 1 beside bounds, and 0 where there is no such record. Read back, beside found 1.
+abbrev pub carriedBounds : BoundsAnswer → RecordBounds
+carriedBounds (bounds.At b) = record { refusal = 0; found = 1; start = b .start; end = b .end }
+carriedBounds bounds.NoSuchRecord = record { refusal = 0; found = 0; start = 0; end = 0 }
+carriedBounds (bounds.Refused why) = record { refusal = numberOf why; found = 0; start = 0; end = 0 }
+
+abbrev pub boundsIn : RecordBounds → Bounds
+boundsIn r = record { start = r .start; end = r .end }

@@ -1,9 +1,13 @@
 // How answers cross to C: as structs of a fixed layout, refusals and endings by number. What is promised of an answer holds of what C receives,
 // since that is read back as it was (`Carrying`).
+mod archives;
 mod firsts;
 mod numbers;
 mod reports;
 
+pub use archives::archive_directory;
+pub use archives::carry_bounds;
+pub use archives::carry_record;
 pub use firsts::carry_first;
 pub use numbers::outcome_number;
 use pattern::Pattern;
@@ -18,7 +22,8 @@ pub struct Preparation {
 }
 
 // The number of a refusal, and then all else is 0; or 0 and the report of a search. Its ending is 0 for done, 1 for spent and 2 for full,
-// at a window, which is 0 for done. The columns are at_noholes and at_holes in C and Rust.
+// at a window, which is 0 for done. Of a search of one record it is 3, and all else 0, where there is no such record. The columns are at_noholes
+// and at_holes in C and Rust.
 #[repr(C)]
 pub struct SearchReport {
     pub refusal: u32,
@@ -37,4 +42,21 @@ pub struct First {
     pub found: u32,
     pub position: usize,
     pub count: u64,
+}
+
+// The number of a refusal, and then all else is 0; or 0, the number of an archive's records, and where its directory starts.
+#[repr(C)]
+pub struct ArchiveDirectory {
+    pub refusal: u32,
+    pub records: u32,
+    pub start: usize,
+}
+
+// The number of a refusal, and then all else is 0; or 0, whether there is such a record, as 1 or 0, and its bounds, or 0.
+#[repr(C)]
+pub struct RecordBounds {
+    pub refusal: u32,
+    pub found: u32,
+    pub start: usize,
+    pub end: usize,
 }

@@ -7,7 +7,7 @@ use search::SearchAnswer;
 ghost use mathlib.Core.Path.{_≡_};
 ghost use Rattle.carried.specs.Carried.{carriedReport, carried};
 
-fn carry_report(report: Report) -> SearchReport
+pub fn carry_report(report: Report) -> SearchReport
     ensures { λ r. ⌜ r ≡ carriedReport report ⌝ }
 {
     let ending = report.ending;

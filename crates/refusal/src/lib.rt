@@ -16,6 +16,12 @@ pub enum Refusal {
     LongText,
     // short order
     ShortInput,
+    // C-11: the reel has under 12 bytes or wrong closing bytes
+    NoTrailer,
+    // C-11: over 4,096 records, or the directory isn't exactly the bytes from its start to the trailer
+    FalseDirectory,
+    // C-11: the records don't touch from byte 0 to the directory start
+    RecordsApart,
     // C-13: the motif holds byte 0
     ZeroInPattern,
     // C-19: the chart hasn't 256 bytes
@@ -36,6 +42,9 @@ impl Refusal {
             Refusal::FalsePattern => 4,
             Refusal::LongText => 5,
             Refusal::ShortInput => 6,
+            Refusal::NoTrailer => 7,
+            Refusal::FalseDirectory => 8,
+            Refusal::RecordsApart => 9,
             Refusal::ZeroInPattern => 10,
             Refusal::ClassesNot256 => 14,
             Refusal::ZeroClassShared => 15,

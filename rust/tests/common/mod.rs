@@ -2,14 +2,23 @@
 
 #![allow(dead_code)] // Each test file uses a part of it.
 
+pub mod archives;
 pub mod classes;
 pub mod worked;
 
 use crate::oracle::{self, Listed, Tables, CLASSES};
+use archives::{assert_record_refused, packed};
 use poqewan::{Ending, First, Pattern, Preparation, Refusal, Report, SCRATCH};
 
 /// What lists hold before a search. No text is long enough to have such a position.
 pub const UNWRITTEN: u32 = 0xA5A5_A5A5;
+
+/// How many searches are checked for each one that is asked again of a record. It is odd, so both
+/// methods have their turn.
+const EVERY: usize = 7;
+
+/// The longest text that is asked for again as a record.
+const SHORT: usize = 1_000;
 
 /// The two searches.
 #[derive(Clone, Copy, Debug, PartialEq, Eq)]
@@ -32,6 +41,21 @@ impl Method {
         match self {
             Self::Colussi => poqewan::colussi(pattern, text, cap, list),
             Self::Kmp => poqewan::kmp(pattern, text, cap, list),
+        }
+    }
+
+    /// Runs the library's search of a record.
+    pub fn run_record(
+        self,
+        pattern: &Pattern,
+        archive: &[u8],
+        record: u64,
+        cap: u64,
+        list: &mut [u32],
+    ) -> Result<Option<Report>, Refusal> {
+        match self {
+            Self::Colussi => poqewan::colussi_record(pattern, archive, record, cap, list),
+            Self::Kmp => poqewan::kmp_record(pattern, archive, record, cap, list),
         }
     }
 
@@ -72,6 +96,8 @@ pub struct Trial {
     pattern: Pattern,
     list: Vec<u32>,
     by_rules: Listed,
+    /// How many searches were checked.
+    searches: usize,
 }
 
 impl Trial {
@@ -95,6 +121,7 @@ impl Trial {
             pattern,
             list: Vec::new(),
             by_rules: Listed::default(),
+            searches: 0,
         }
     }
 
@@ -110,7 +137,8 @@ impl Trial {
     }
 
     /// Runs both searches and checks all that is promised of them. Where Colussi's is run to its
-    /// end, the answer for the first position is checked too.
+    /// end, the answer for the first position is checked too. Some of the searches are asked again
+    /// of the text as a record of an archive.
     pub fn check(&mut self, text: &[u8], cap: u64, list_len: usize) -> [Report; 2] {
         let occurrences = self.occurrences(text);
         Method::BOTH.map(|method| self.check_one(method, text, cap, list_len, &occurrences))
@@ -180,7 +208,26 @@ impl Trial {
         if (method, expected.ending) == (Method::Colussi, Ending::Done) {
             self.check_first_of(text, &expected, occurrences);
         }
+        self.searches += 1;
+        if self.searches % EVERY == 0 && text.len() <= SHORT {
+            self.check_as_record(method, text, cap, &expected);
+        }
         expected
+    }
+
+    /// The same search of the text as a record of an archive, where the list still holds what the
+    /// plain one gave. Its neighbours are the pattern: no occurrence may reach into them.
+    fn check_as_record(&self, method: Method, text: &[u8], cap: u64, expected: &Report) {
+        let bytes = &self.tables.bytes;
+        let archive = packed(&[bytes, text, bytes]);
+        let mut list = vec![UNWRITTEN; self.list.len()];
+        let answer = method.run_record(&self.pattern, &archive, 1, cap, &mut list);
+        assert!(
+            answer == Ok(Some(*expected)) && list == self.list,
+            "{method:?}, a record, cap {cap}, list of {}, {}: {answer:?}, by rules {expected:?}",
+            list.len(),
+            case(&self.tables, text)
+        );
     }
 
     /// Asks for the first position, and checks all that is promised of the answer.
@@ -315,7 +362,8 @@ pub fn check_value(value: &Pattern) -> bool {
     }
 }
 
-/// All searches must refuse so and leave the list as it is.
+/// All searches must refuse so and leave the list as it is. So must those of a record, with the
+/// text for an archive: the pattern is tested first, and then the length.
 pub fn assert_refused(pattern: &Pattern, text: &[u8], why: Refusal) {
     let answer = poqewan::find_first(pattern, text);
     assert_eq!(answer, Err(why), "the first position of {pattern:?}");
@@ -324,6 +372,7 @@ pub fn assert_refused(pattern: &Pattern, text: &[u8], why: Refusal) {
         let answer = method.run(pattern, text, u64::MAX, &mut list);
         assert_eq!(answer, Err(why), "{method:?} on {pattern:?}");
         assert_eq!(list, [UNWRITTEN; 8], "{method:?} wrote into the list");
+        assert_record_refused(method, pattern, text, 0, why);
     }
 }
 

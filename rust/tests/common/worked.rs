@@ -1,5 +1,6 @@
 //! Worked records: searches with the results that a document gives, or that were worked by hand.
 
+use super::archives::packed;
 use super::classes::Classes;
 use super::{Method, Trial, UNWRITTEN};
 use poqewan::{Ending, Report};
@@ -51,7 +52,8 @@ pub const fn row(
 }
 
 impl Row {
-    /// Both searches answer as the oracle does, and as the row has it.
+    /// Both searches answer as the oracle does, and as the row has it; so do those of a record
+    /// between two others.
     pub fn check(&self) {
         let [pattern, text] = [self.pattern, self.text].map(<[u8]>::escape_ascii);
         let mut trial = Trial::with_classes(self.pattern, &(self.classes)());
@@ -70,6 +72,12 @@ impl Row {
             let mut list = vec![UNWRITTEN; self.list_len];
             let answer = method.run(trial.pattern(), self.text, self.cap, &mut list);
             assert_eq!(answer, Ok(expected), "{case}");
+            assert_eq!(&list[..expected.written], self.positions, "{case}");
+
+            let archive = packed(&[self.pattern, self.text, self.pattern]);
+            let mut list = vec![UNWRITTEN; self.list_len];
+            let answer = method.run_record(trial.pattern(), &archive, 1, self.cap, &mut list);
+            assert_eq!(answer, Ok(Some(expected)), "{case}, of a record");
             assert_eq!(&list[..expected.written], self.positions, "{case}");
         }
     }

@@ -4,6 +4,8 @@
 
 #![allow(dead_code)] // Each test file uses a part of it.
 
+pub mod archive;
+
 use poqewan::{Ending, First, Pattern, Refusal, Report};
 
 /// The longest pattern, as document 01 has it.
