@@ -30,8 +30,8 @@ abbrev pub three : List ℕ
 three = bytes ++ entry 0 3 ++ entry 3 0 ++ entry 3 2 ++ trailer 5 3
 
 -- Of an archive and a number, what the definition gives: the records of `three`, and the number past them; no records, and a byte that belongs to
--- none; a trailer that is a byte short, or ends otherwise; a directory that starts a byte late, or has 4,097 records; a gap, an overlap, a last
--- record that ends before the directory, or past it.
+-- none; a trailer that is a byte short, or ends otherwise; a directory of one byte, and one of 4,097 records; a gap, an overlap, a last record that
+-- ends before the directory, or past it.
 abbrev pub worked : List ((List ℕ × ℕ) × BoundsAnswer)
 worked =
     ((three, 0), At record { start = 0; end = 3 })
