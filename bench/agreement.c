@@ -91,6 +91,39 @@ static bool searches_record(const struct version *a, const struct version *b, bo
         && searches_agree(a->kmp_record, b->kmp, columns, subject, lists);
 }
 
+/* By Knuth, Morris and Pratt. */
+static bool tell_occurrences(const uint16_t *lengths, const struct version *version, const struct subject *subject, uint32_t *list)
+{
+    struct report whole;
+    size_t found = 0;
+    version->kmp(subject->prepared[OURS], subject, UINT64_MAX, list, subject->n, &whole);
+    for (size_t x = 0; x < subject->n; x++)
+        if (lengths[x] == subject->m && (found == whole.written || list[found++] != x))
+            return false;
+    return found == whole.written;
+}
+
+/* Both lists are spoilt before, by different lengths. A function that is not there has nothing to tell. */
+static bool give_lengths(lengths_function *a, lengths_function *b, const struct subject *subject, struct lists lists)
+{
+    const size_t n = subject->n, bytes = n * sizeof *lists.lengths;
+    if (a == NULL || b == NULL)
+        return true;
+    memset(lists.lengths, 0xff, bytes);
+    memset(lists.other_lengths, 0xfe, bytes);
+    const struct prefix_lengths one = a(subject->prepared[OURS], subject, lists.lengths, n);
+    const struct prefix_lengths other = b(subject->prepared[OTHER], subject, lists.other_lengths, n);
+    return one.refusal == other.refusal && one.count == other.count && memcmp(lists.lengths, lists.other_lengths, bytes) == 0;
+}
+
+bool lengths_agree(const struct version *a, const struct version *b, const struct subject *subject, struct lists lists)
+{
+    if (a->prefix_lengths == NULL || b->prefix_lengths == NULL)
+        return true;
+    return give_lengths(a->prefix_lengths, b->tuned_lengths, subject, lists)
+        && give_lengths(a->prefix_lengths, b->prefix_lengths, subject, lists) && tell_occurrences(lists.lengths, a, subject, lists.one);
+}
+
 static bool same_tables(const struct tables *a, const struct tables *b)
 {
     return a->len == b->len && a->noholes == b->noholes && memcmp(a->bytes, b->bytes, sizeof a->bytes) == 0
@@ -120,6 +153,6 @@ bool versions_agree(const struct version *a, const struct version *b, const stru
     return searches_agree(a->colussi, b->colussi, columns, subject, lists)
         && searches_agree(a->kmp, b->kmp, columns, subject, lists)
         && finds_first(a, OURS, subject, lists.one) && finds_first(b, OTHER, subject, lists.other)
-        && searches_record(a, b, columns, subject, lists)
+        && searches_record(a, b, columns, subject, lists) && lengths_agree(a, b, subject, lists)
         && (b->prepare == NULL || (prepare_alike(a, b, subject) && a->charge(subject->n) == b->charge(subject->n)));
 }

@@ -4,9 +4,10 @@
 
 #include "subject.h"
 
-/* Two lists to be lent, with an entry for each byte of the text. */
+/* Two lists to be lent, and two for prefix lengths, with an entry for each byte of the text. */
 struct lists {
     uint32_t *one, *other;
+    uint16_t *lengths, *other_lengths;
 };
 
 /* Whether our version and the other report and list the same, by each search; also with half the comparisons, with half the list
@@ -14,8 +15,12 @@ struct lists {
    do that like ours, and give the same charge. A version that looks for the first occurrence must find the one at which its own
    search in Colussi's order is full with an empty list, with the same count, and with which a whole list begins. If the text is a
    record of an archive, our version must search it there like the other searches the text; one that is not there it must not
-   search. */
+   search. And they must agree in the prefix lengths. */
 bool versions_agree(const struct version *a, const struct version *b, const struct subject *subject, struct lists lists);
+
+/* Whether they give the same prefix lengths and the same count, with m exactly where our version lists the pattern; or one of them
+   gives none. */
+bool lengths_agree(const struct version *a, const struct version *b, const struct subject *subject, struct lists lists);
 
 /* Whether two searches of the whole text list the same: one of ours; and one of the other side, or that needs nothing prepared. */
 bool list_alike(search_function *a, search_function *b, const struct subject *subject, struct lists lists);

@@ -1,18 +1,18 @@
 /*
  * Measures the library against plain C by the same rules and prints docs/performance-rows.md: the ratios to the C; the search for
  * the first occurrence, beside the library's own search with an empty list; the search of a record of an archive, beside that of the
- * record by itself; the throughput, with the counts; the cost of preparation and of the check of a pattern; the time per byte as the
- * text grows; the ratios by kind; and whether each target holds.
+ * record by itself; the prefix lengths, beside the C; the throughput, with the counts; the cost of preparation and of the check of a
+ * pattern; the time per byte as the text grows; the ratios by kind; and whether each target holds.
  *
  * It exits with 1 if two searches differ in an answer, and then measures nothing. A missed target is printed and no more: times
  * depend on the machine.
  */
 #include "archive.h"
 #include "first.h"
+#include "lengths.h"
 #include "uncounted.h"
 
 #include <inttypes.h>
-#include <math.h>
 #include <stdio.h>
 
 /* The targets: ours to the C by the same rules, on every row of each search, for Knuth, Morris and Pratt a lower one through
@@ -130,24 +130,12 @@ static void costs(void)
     }
 }
 
-/* Of the slowest size over the fastest, by pairs: all sizes run the same code, so that a slow spell changes the times and not
-   their ratio, and a run over 16 MiB is too long for a quiet moment. */
-static double spread(const struct trial *trial)
-{
-    double fastest = INFINITY, slowest = 0;
-    for (size_t s = 0; s < COUNT_OF(sizes); s++) {
-        fastest = fmin(fastest, trial->times[s].ratios[PAIRS]);
-        slowest = fmax(slowest, trial->times[s].ratios[PAIRS]);
-    }
-    return slowest / fastest;
-}
-
 static void print_growth(const char *name, const struct trial *trial)
 {
     printf("| %-21s |", name);
     for (size_t s = 0; s < COUNT_OF(sizes); s++)
         printf(" %6.3f |", trial->times[s].least / POQEWAN_LONGEST_TEXT * 1e9);
-    printf(" %6.3f |\n", spread(trial));
+    printf(" %6.3f |\n", spread_of(trial));
 }
 
 static void growths(void)
@@ -180,7 +168,7 @@ static void ratios_by_kind(void)
 
 static double spread_in_per_cent(size_t kind)
 {
-    return (spread(&longest_texts[kind].trial[PIECES]) - 1) * 100;
+    return (spread_of(&longest_texts[kind].trial[PIECES]) - 1) * 100;
 }
 
 static void judge_growth(const char *claim, double target)
@@ -219,6 +207,7 @@ static void verdicts(void)
                 LEAST_RATIO_OF_KMP_BY_CLASSES);
     judge_first();
     judge_archives();
+    judge_lengths();
     judge_growth("time per byte from 64 KiB to 16 MiB within 15 %", GREATEST_SPREAD);
     judge_check("search of an empty text under 4 microseconds at m = 256", 256, LONGEST_CHECK_OF_256);
     judge_check("search of an empty text under 1 microsecond at m = 8", 8, LONGEST_CHECK_OF_8);
@@ -230,6 +219,7 @@ int main(void)
     set_rows();
     set_first_rows();
     set_archive_rows();
+    set_length_rows();
     add_trials();
     if (!agree_on_rows(all_agree))
         return 1;
@@ -245,6 +235,7 @@ int main(void)
     print_text_ratios();
     print_first();
     print_archives();
+    print_lengths();
     throughput();
     costs();
     growths();

@@ -1,7 +1,8 @@
 /* The library's functions in the form in which they are measured. It is compiled with the header of each build: those from before
    C-19 know no classes, those from before C-16 report no columns, those from before C-12 have no search for the first
-   occurrence, and those from before C-11 have no archives. C can't ask whether a struct has a field, or whether there is a
-   function, so `run` looks into the header and sets HAS_COLUMNS, HAS_FIRST and HAS_ARCHIVES to 1 or 0. */
+   occurrence, those from before C-11 have no archives, and those from before C-14 have no prefix lengths. C can't ask whether a
+   struct has a field, or whether there is a function, so `run` looks into the header and sets HAS_COLUMNS, HAS_FIRST, HAS_ARCHIVES
+   and HAS_LENGTHS to 1 or 0. */
 #include "subject.h"
 
 #include <poqewan.h>
@@ -54,6 +55,17 @@ static void first(const void *prepared, const struct subject *subject, struct fi
 }
 #else
 #define first NULL
+#endif
+
+#if HAS_LENGTHS
+static struct prefix_lengths prefix_lengths(const void *prepared, const struct subject *subject, uint16_t *lengths, size_t room)
+{
+    const poqewan_lengths answer =
+        poqewan_prefix_lengths(*(const poqewan_pattern *)prepared, subject->text, subject->n, lengths, room);
+    return (struct prefix_lengths){answer.refusal, answer.count};
+}
+#else
+#define prefix_lengths NULL
 #endif
 
 #if HAS_ARCHIVES
@@ -121,6 +133,8 @@ static void copy_tables(const void *prepared, struct tables *tables)
 const struct version version = {colussi,
                                 kmp,
                                 first,
+                                prefix_lengths,
+                                NULL,
                                 colussi_record,
                                 kmp_record,
                                 read_directory,

@@ -1,5 +1,6 @@
-/* Colussi's order and Knuth, Morris and Pratt in plain C, by the library's rules and with its report; the pattern is not checked.
-   One loop for each, as the rules are written, and nothing more clever: the optimizer is left to do the rest. */
+/* Colussi's order and Knuth, Morris and Pratt in plain C, by the library's rules and with its report; and the prefix lengths with
+   their count. The pattern is not checked. One loop for each, as the rules are written, and nothing more clever: the optimizer is
+   left to do the rest. The prefix lengths are there a second time, tuned by hand. */
 #include "subject.h"
 
 #include <poqewan.h>
@@ -137,6 +138,111 @@ static struct report search_kmp(const struct tables *pattern, const uint8_t *tex
     return report_of(POQEWAN_DONE, 0, c, at_noholes, written);
 }
 
+/* hmax(k) - k for each k up to m: how much of the pattern stands in itself from place k on. By the Z algorithm, from the part that
+   reaches farthest. */
+static void lengths_in_itself(const uint16_t *letters, size_t m, uint16_t lengths[LONGEST_PATTERN + 1])
+{
+    size_t at = 0, end = 0;
+    lengths[0] = (uint16_t)m;
+    lengths[m] = 0;
+    for (size_t k = 1; k < m; k++) {
+        if (k < end && lengths[k - at] < end - k) {
+            lengths[k] = lengths[k - at];
+            continue;
+        }
+        size_t length = k < end ? end - k : 0;
+        while (letters[length] == letters[k + length]) /* the letter at m is no other's */
+            length++;
+        lengths[k] = (uint16_t)length;
+        at = k;
+        end = k + length;
+    }
+}
+
+/* With i bytes matched in a window: how much of the pattern begins k positions further on, unless the next byte tells more. */
+static uint16_t length_after(const uint16_t *in_itself, size_t i, size_t k)
+{
+    return (uint16_t)(in_itself[k] < i - k ? in_itself[k] : i - k);
+}
+
+/* In window b with i bytes matched, as long as b + i is below n. The lengths at the positions that a window leaves follow from the
+   pattern, and the shift is found as they are written. */
+static struct prefix_lengths lengths_by_rules(const struct tables *pattern, const uint8_t *text, size_t n, uint16_t *lengths)
+{
+    const size_t m = pattern->len;
+    size_t b = 0, i = 0;
+    uint64_t c = 0;
+    uint16_t letters[LONGEST_PATTERN + 1], in_itself[LONGEST_PATTERN + 1];
+    for (size_t p = 0; p < m; p++)
+        letters[p] = pattern->classes[pattern->bytes[p]];
+    letters[m] = CLASSES; /* no class */
+    lengths_in_itself(letters, m, in_itself);
+
+    while (b + i < n) {
+        if (i < m) {
+            c++;
+            if (letters[i] == pattern->classes[text[b + i]]) {
+                i++;
+                continue;
+            }
+        }
+        size_t k = 1;
+        lengths[b] = (uint16_t)i;
+        for (; k <= i && in_itself[k] != i - k; k++)
+            lengths[b + k] = length_after(in_itself, i, k);
+        b += k;
+        i = k <= i ? i - k : 0;
+    }
+    for (size_t k = 0; k < i; k++)
+        lengths[b + k] = length_after(in_itself, i, k);
+    return (struct prefix_lengths){.count = c};
+}
+
+/* The same by the text byte at b + i, which is read once: no step goes back. Windows that miss at place 0 have a loop of their own. A
+   comparison that is equal, or that moves the window past the byte, takes the search on by a byte. So the count is n and the
+   mismatches that stay at their byte, those at noholes: nothing is added up at the others. Of eight forms this is the fastest, over
+   all kinds of texts, with gcc 12. */
+static struct prefix_lengths lengths_by_bytes(const struct tables *pattern, const uint8_t *text, size_t n, uint16_t *lengths)
+{
+    const size_t m = pattern->len;
+    size_t i = 0;
+    uint64_t c = n;
+    uint16_t letters[LONGEST_PATTERN + 1], in_itself[LONGEST_PATTERN + 1];
+    for (size_t p = 0; p < m; p++)
+        letters[p] = pattern->classes[pattern->bytes[p]];
+    letters[m] = CLASSES; /* no class, so that a whole occurrence is left like a mismatch */
+    lengths_in_itself(letters, m, in_itself);
+
+    for (size_t end = 0; end < n; end++) {
+        uint16_t letter = pattern->classes[text[end]];
+        if (i == 0)
+            while (letter != letters[0]) {
+                lengths[end++] = 0;
+                if (end == n)
+                    return (struct prefix_lengths){.count = c};
+                letter = pattern->classes[text[end]];
+            }
+        while (letters[i] != letter) {
+            uint16_t *at = lengths + (end - i);
+            size_t k = 1;
+            at[0] = (uint16_t)i;
+            for (; k <= i && in_itself[k] != i - k; k++)
+                at[k] = length_after(in_itself, i, k);
+            if (k > i) {
+                i = 0;
+                goto next;
+            }
+            c += i < m;
+            i -= k;
+        }
+        i++;
+    next:;
+    }
+    for (size_t k = 0; k < i; k++)
+        lengths[n - i + k] = length_after(in_itself, i, k);
+    return (struct prefix_lengths){.count = c};
+}
+
 static void colussi(const void *prepared, const struct subject *subject, uint64_t cap, uint32_t *positions, size_t room,
                     struct report *report)
 {
@@ -156,5 +262,24 @@ static void first(const void *prepared, const struct subject *subject, struct fi
         *first = answer;
 }
 
-const struct version version = {
-    .colussi = colussi, .kmp = kmp, .first = first, .size = sizeof(struct tables), .has_classes = true, .has_columns = true};
+/* The room is enough. */
+static struct prefix_lengths prefix_lengths(const void *prepared, const struct subject *subject, uint16_t *lengths, size_t room)
+{
+    (void)room;
+    return lengths_by_rules(prepared, subject->text, subject->n, lengths);
+}
+
+static struct prefix_lengths tuned_lengths(const void *prepared, const struct subject *subject, uint16_t *lengths, size_t room)
+{
+    (void)room;
+    return lengths_by_bytes(prepared, subject->text, subject->n, lengths);
+}
+
+const struct version version = {.colussi = colussi,
+                                .kmp = kmp,
+                                .first = first,
+                                .prefix_lengths = prefix_lengths,
+                                .tuned_lengths = tuned_lengths,
+                                .size = sizeof(struct tables),
+                                .has_classes = true,
+                                .has_columns = true};

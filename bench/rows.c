@@ -74,6 +74,8 @@ void make(const struct input *input)
         text = touched(POQEWAN_LONGEST_TEXT);
         lists.one = touched(POQEWAN_LONGEST_TEXT * sizeof *lists.one);
         lists.other = touched(POQEWAN_LONGEST_TEXT * sizeof *lists.other);
+        lists.lengths = touched(POQEWAN_LONGEST_TEXT * sizeof *lists.lengths);
+        lists.other_lengths = touched(POQEWAN_LONGEST_TEXT * sizeof *lists.other_lengths);
         for (enum side side = 0; side < SIDES; side++)
             stores[side] = touched(IN_TURN * versions[side][0]->size);
     }
@@ -144,6 +146,7 @@ static const struct work preparation = {"preparation", run_preparation, NULL}, c
 struct row rows[ROWS];
 struct row *const longest_texts = rows + TEXTS - COUNT_OF(kinds), *const first_rows = rows + TEXTS + PATTERNS;
 struct row *const archive_rows = rows + TEXTS + PATTERNS + FIRSTS;
+struct row *const length_rows = rows + TEXTS + PATTERNS + FIRSTS + IN_ARCHIVES;
 
 void add_trial(struct row *row, const struct work *work, int variants, struct share share)
 {
@@ -214,6 +217,8 @@ static bool agree_on_row(const struct row *row, bool (*agree)(const struct subje
     make(&row->input);
     if (without_occurrence(&row->input) && report_by(versions[OURS][0]->colussi).written > 0)
         return false;
+    if (row->input.lengths)
+        return lengths_agree(versions[OURS][0], versions[OTHER][0], &subjects[0], lists);
     for (size_t i = 0; i < subjects_made; i++)
         if (!agree(&subjects[i]))
             return false;
@@ -227,7 +232,10 @@ bool agree_on_rows(bool (*agree)(const struct subject *subject))
         if (row->trials > 0 && !agree_on_row(row, agree)) {
             printf("DIFFERS: %s, %s, m = %zu%s\n", name_of(row), row->input.kind != NULL ? size_name_of(row) : "no text",
                    row->input.m,
-                   row->input.first ? ", for the first occurrence" : row->input.archive != NULL ? ", in an archive" : "");
+                   row->input.first             ? ", for the first occurrence"
+                   : row->input.archive != NULL ? ", in an archive"
+                   : row->input.lengths         ? ", for prefix lengths"
+                                                : "");
             agreed = false;
         }
     return agreed;

@@ -9,7 +9,8 @@
 extern const struct version *const versions[SIDES][COPIES];
 
 /* What is searched: a pattern in a text; or many patterns in turn, and no text. For the first occurrence: a pattern in a text
-   without any; or many patterns in turn, each in a text that is the pattern itself. For archives: a pattern in a record. */
+   without any; or many patterns in turn, each in a text that is the pattern itself. For archives: a pattern in a record. For prefix
+   lengths: a pattern in a text. */
 struct input {
     const struct kind *kind; /* with the size of the text; or none, and then */
     const struct size *size;
@@ -17,6 +18,7 @@ struct input {
     size_t m;
     uint64_t number; /* that the generator starts with, if there is a kind */
     bool first;      /* whether it is for the first occurrence */
+    bool lengths;    /* whether it is for prefix lengths */
     const struct archive *archive; /* or NULL; its records have texts of the kind, and all have that size */
     uint64_t record;               /* if it is not there, the size is 0 */
 };
@@ -44,8 +46,8 @@ struct row {
     struct trial trial[MOST_TRIALS];
 };
 
-/* The rows: short texts; longer ones, each with one length of pattern; patterns; and those for the first occurrence and for
-   archives, which are left out unless a program sets them. */
+/* The rows: short texts; longer ones, each with one length of pattern; patterns; and those for the first occurrence, for archives
+   and for prefix lengths, which are left out unless a program sets them. */
 #define LENGTH_IN_LONG_TEXTS 16
 #define SHORT_TEXTS (COUNT_OF(kinds) * COUNT_OF(lengths))
 #define TEXTS (SHORT_TEXTS + COUNT_OF(kinds) * (COUNT_OF(sizes) - 1))
@@ -53,9 +55,10 @@ struct row {
 #define SCANS (SHORT_TEXTS + COUNT_OF(kinds)) /* of the short texts, and of the shortest of the longer ones */
 #define FIRSTS (SCANS + PATTERNS)
 #define IN_ARCHIVES 16
-#define ROWS (TEXTS + PATTERNS + FIRSTS + IN_ARCHIVES)
+#define FOR_LENGTHS (TEXTS + 6) /* all texts, and further lengths of patterns in some */
+#define ROWS (TEXTS + PATTERNS + FIRSTS + IN_ARCHIVES + FOR_LENGTHS)
 extern struct row rows[ROWS];
-extern struct row *const first_rows, *const archive_rows;
+extern struct row *const first_rows, *const archive_rows, *const length_rows;
 extern struct row *const longest_texts; /* one of each kind */
 
 /* Sets the rows: both searches by both sides in texts; preparation and the check of patterns by the sides that have them. Kinds
@@ -66,8 +69,8 @@ void add_trial(struct row *row, const struct work *work, int variants, struct sh
 /* Reads what a side has prepared, before its run: the other side has its own, and the cache may be too small for both. */
 void read_prepared(int side);
 
-/* Whether that is so of every subject of every row, but for those left out; and whether a text that shall be without occurrences is
-   so. A row of which it isn't is printed. */
+/* Whether that is so of every subject of every row, but for those left out; of rows for prefix lengths, whether the sides agree in
+   these; and whether a text that shall be without occurrences is so. A row of which it isn't is printed. */
 bool agree_on_rows(bool (*agree)(const struct subject *subject));
 bool sides_agree(const struct subject *subject);
 

@@ -55,6 +55,13 @@ struct first {
 };
 typedef void first_function(const void *prepared, const struct subject *subject, struct first *first);
 
+/* The library's answer to how much of the pattern begins at each position, but for the list; and the call for it. */
+struct prefix_lengths {
+    uint32_t refusal;
+    uint64_t count;
+};
+typedef struct prefix_lengths lengths_function(const void *prepared, const struct subject *subject, uint16_t *lengths, size_t room);
+
 static inline void give(struct report *place, struct report report)
 {
     if (place != NULL)
@@ -74,6 +81,8 @@ struct tables {
 struct version {
     search_function *colussi, *kmp;
     first_function *first; /* NULL in a build that has none */
+    lengths_function *prefix_lengths; /* the same */
+    lengths_function *tuned_lengths;  /* of the C, tuned by hand; NULL in a build */
     /* Of the record in its archive, and of the directory, with the number of the refusal; all NULL in a build without archives. */
     search_function *colussi_record, *kmp_record;
     uint32_t (*read_directory)(const struct archive *archive);

@@ -1,5 +1,6 @@
 #include "verdicts.h"
 
+#include <math.h>
 #include <stdio.h>
 
 double ratio_of(const struct row *row, int search)
@@ -24,6 +25,16 @@ struct range range_of(size_t kind, size_t count, int search, double target)
         if (row->input.kind >= &kinds[kind] && row->input.kind < &kinds[kind] + count && row->trials > 0)
             into_range(&range, row, search, target);
     return range;
+}
+
+double spread_of(const struct trial *trial)
+{
+    double fastest = INFINITY, slowest = 0;
+    for (size_t s = 0; s < COUNT_OF(sizes); s++) {
+        fastest = fmin(fastest, trial->times[s].ratios[PAIRS]);
+        slowest = fmax(slowest, trial->times[s].ratios[PAIRS]);
+    }
+    return slowest / fastest;
 }
 
 const char *word(bool holds)

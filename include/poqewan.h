@@ -48,6 +48,7 @@ extern "C" {
 #define POQEWAN_FALSE_DIRECTORY 8
 #define POQEWAN_RECORDS_APART 9
 #define POQEWAN_ZERO_IN_PATTERN 10
+#define POQEWAN_SHORT_LENGTHS 11
 #define POQEWAN_CLASSES_NOT_256 14
 #define POQEWAN_ZERO_CLASS_SHARED 15
 
@@ -98,6 +99,12 @@ typedef struct poqewan_first {
     size_t position; /* where it occurs first, or 0 */
     uint64_t count;  /* the comparisons of a pattern byte with a text byte */
 } poqewan_first;
+
+/* The number of a refusal, and then all else is 0; or 0 and the count. */
+typedef struct poqewan_lengths {
+    uint32_t refusal;
+    uint64_t count; /* the comparisons of a pattern byte with a text byte */
+} poqewan_lengths;
 
 /* The number of a refusal, and then all else is 0; or 0 and the directory of an archive. */
 typedef struct poqewan_directory {
@@ -172,6 +179,22 @@ poqewan_report poqewan_kmp(poqewan_pattern pattern, const uint8_t *text, size_t 
  * if n >= m, and count = 0 if n < m.
  */
 poqewan_first poqewan_find_first(poqewan_pattern pattern, const uint8_t *text, size_t text_len);
+
+/*
+ * How much of the pattern begins at each position of a text: entry x of the list becomes the length of the longest prefix of the
+ * pattern whose bytes equal, by the pattern's own classes, those of the text from position x on. The first `text_len` entries
+ * are written, and those past them are unchanged. Refused, in this order, with the list unchanged: a pattern that is not what
+ * preparation gives for its own length, bytes and classes (4), a text of more than POQEWAN_LONGEST_TEXT bytes (5), a list with
+ * fewer entries than the text has bytes (11).
+ *
+ * The comparisons are those of Knuth, Morris and Pratt, carried on until the window and the length matched in it reach the
+ * text's end, also where the text is shorter than the pattern. Lengths that follow from the pattern's own periods cost nothing.
+ * In the windows that lie within the text the comparisons are those of poqewan_kmp run to its end, one for one. With n text
+ * bytes the count is 0 if n = 0, at most 2 * n - 1 if n >= 1, and so at most 2 * n. With m pattern bytes, entry x is m exactly
+ * where the pattern occurs at x.
+ */
+poqewan_lengths poqewan_prefix_lengths(poqewan_pattern pattern, const uint8_t *text, size_t text_len, uint16_t *lengths,
+                                       size_t lengths_len);
 
 /*
  * An archive is many texts in one run of bytes. Its records lie back to back from byte 0, in order and with no gaps; empty ones

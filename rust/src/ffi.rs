@@ -33,6 +33,13 @@ pub struct First {
     pub count: u64,
 }
 
+/// The number of a refusal, and then all else is 0; or 0 and the count.
+#[repr(C)]
+pub struct Lengths {
+    pub refusal: u32,
+    pub count: u64,
+}
+
 /// The number of a refusal, and then all else is 0; or 0 and the directory of an archive.
 #[repr(C)]
 pub struct Directory {
@@ -106,6 +113,14 @@ extern "C" {
 
     pub fn poqewan_find_first(pattern: Pattern, text: *const u8, text_len: usize) -> First;
 
+    pub fn poqewan_prefix_lengths(
+        pattern: Pattern,
+        text: *const u8,
+        text_len: usize,
+        lengths: *mut u16,
+        lengths_len: usize,
+    ) -> Lengths;
+
     pub fn poqewan_read_directory(archive: *const u8, archive_len: usize) -> Directory;
 
     pub fn poqewan_find_record(archive: *const u8, archive_len: usize, record: u64) -> Bounds;
@@ -164,6 +179,10 @@ const _: () = {
     assert!(offset_of!(First, found) == 4);
     assert!(offset_of!(First, position) == 8);
     assert!(offset_of!(First, count) == 16);
+
+    assert!(size_of::<Lengths>() == 16);
+    assert!(offset_of!(Lengths, refusal) == 0);
+    assert!(offset_of!(Lengths, count) == 8);
 
     assert!(size_of::<Directory>() == 16);
     assert!(offset_of!(Directory, refusal) == 0);

@@ -59,6 +59,20 @@
 //! # Ok::<(), Refusal>(())
 //! ```
 //!
+//! How much of the pattern begins at each position:
+//!
+//! ```
+//! use poqewan::{identity, prefix_lengths, prepare, Refusal, SCRATCH};
+//!
+//! let pattern = prepare(b"aba", &identity(), &mut [0; SCRATCH])?.pattern;
+//! let mut lengths = [0; 5];
+//! let count = prefix_lengths(&pattern, b"ababa", &mut lengths)?;
+//!
+//! assert_eq!(lengths, [3, 0, 3, 0, 1]);
+//! assert_eq!(count, 5);
+//! # Ok::<(), Refusal>(())
+//! ```
+//!
 //! Three records in one archive, and a search of one of them:
 //!
 //! ```
@@ -169,6 +183,8 @@ pub enum Refusal {
     RecordsApart = 9,
     /// The pattern holds a byte 0.
     ZeroInPattern = 10,
+    /// The list of lengths has fewer entries than the text has bytes.
+    ShortLengths = 11,
     /// The number of classes is not [`CLASSES`].
     ClassesNot256 = 14,
     /// A value other than 0 has the class of 0.
@@ -202,6 +218,7 @@ impl fmt::Display for Refusal {
                 "the archive's records do not touch from its first byte to its directory"
             }
             Self::ZeroInPattern => "the pattern holds a byte 0",
+            Self::ShortLengths => "the list of lengths has fewer entries than the text has bytes",
             Self::ClassesNot256 => "the number of classes is not 256",
             Self::ZeroClassShared => "a value other than 0 has the class of 0",
         })
@@ -366,6 +383,38 @@ pub fn find_first(pattern: &Pattern, text: &[u8]) -> Result<First, Refusal> {
     first_of(&answer)
 }
 
+/// How much of the pattern begins at each position of a text: entry x of the list becomes the length
+/// of the longest prefix of the pattern whose bytes equal, by the pattern's own classes, those of the
+/// text from position x on. Gives the count: the comparisons of a pattern byte with a text byte. The
+/// entries past the text's length are unchanged.
+///
+/// The comparisons are those of Knuth, Morris and Pratt, carried on until the window and the length
+/// matched in it reach the text's end, also where the text is shorter than the pattern. Lengths that
+/// follow from the pattern's own periods cost nothing. In the windows that lie within the text the
+/// comparisons are those of [`kmp`] run to its end, one for one. With n text bytes the count is 0 if
+/// n = 0, at most 2 * n - 1 if n >= 1, and so at most 2 * n. With m pattern bytes, entry x is m
+/// exactly where the pattern occurs at x.
+///
+/// # Errors
+///
+/// Refused, in this order, with the list unchanged: a pattern that is not what preparation gives
+/// for its own length, bytes and classes (4), a text of more than [`LONGEST_TEXT`] bytes (5), a list
+/// with fewer entries than the text has bytes (11).
+pub fn prefix_lengths(pattern: &Pattern, text: &[u8], lengths: &mut [u16]) -> Result<u64, Refusal> {
+    // SAFETY: each pointer and its number of elements are those of a slice, and what is written is
+    // borrowed mutably, so it overlaps nothing else. Any value of the pattern is answered.
+    let answer = unsafe {
+        ffi::poqewan_prefix_lengths(
+            *pattern,
+            text.as_ptr(),
+            text.len(),
+            lengths.as_mut_ptr(),
+            lengths.len(),
+        )
+    };
+    count_of(&answer)
+}
+
 /// Where a record of an archive lies: its bytes are those of the archive in this range. `Ok(None)`
 /// means that there is no such record. Records count from 0.
 ///
@@ -499,6 +548,7 @@ fn accepted(number: u32) -> Result<(), Refusal> {
         8 => Err(Refusal::FalseDirectory),
         9 => Err(Refusal::RecordsApart),
         10 => Err(Refusal::ZeroInPattern),
+        11 => Err(Refusal::ShortLengths),
         14 => Err(Refusal::ClassesNot256),
         15 => Err(Refusal::ZeroClassShared),
         other => unreachable!("the library's contract has no refusal {other}"),
@@ -557,13 +607,19 @@ fn first_of(answer: &ffi::First) -> Result<First, Refusal> {
     })
 }
 
+/// Reads the count of a call for prefix lengths.
+fn count_of(answer: &ffi::Lengths) -> Result<u64, Refusal> {
+    accepted(answer.refusal)?;
+    Ok(answer.count)
+}
+
 #[cfg(test)]
 mod tests {
     use super::*;
 
     #[test]
     fn the_number_of_a_refusal_is_read_back_as_that_refusal() {
-        for number in (1..=5).chain([7, 8, 9, 10, 14, 15]) {
+        for number in (1..=5).chain([7, 8, 9, 10, 11, 14, 15]) {
             assert_eq!(accepted(number).map_err(Refusal::number), Err(number));
         }
         assert_eq!(accepted(0), Ok(()));
@@ -698,5 +754,14 @@ mod tests {
         assert_eq!(first_of(&at), Ok(expected));
         assert_eq!(first_of(&absent), Ok(First::Absent { count: 7 }));
         assert_eq!(first_of(&refused), Err(Refusal::LongText));
+    }
+
+    #[test]
+    fn of_prefix_lengths_a_refusal_is_read_first_and_then_the_count() {
+        let count = u64::from(u32::MAX) + 7;
+        let counted = ffi::Lengths { refusal: 0, count };
+        let refused = ffi::Lengths { refusal: 11, count };
+        assert_eq!(count_of(&counted), Ok(count));
+        assert_eq!(count_of(&refused), Err(Refusal::ShortLengths));
     }
 }

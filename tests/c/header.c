@@ -21,6 +21,15 @@ uint64_t charge_of(const uint8_t *bytes, size_t m, const uint8_t *text, size_t n
     return poqewan_charge(r.count);
 }
 
+uint64_t charge_of_lengths(const poqewan_pattern *pattern, const uint8_t *text, size_t n);
+
+uint64_t charge_of_lengths(const poqewan_pattern *pattern, const uint8_t *text, size_t n)
+{
+    uint16_t lengths[8192];
+    poqewan_lengths l = poqewan_prefix_lengths(*pattern, text, n, lengths, 8192);
+    return l.refusal == POQEWAN_SHORT_LENGTHS ? 0 : poqewan_charge(l.count);
+}
+
 uint64_t charge_of_record(const poqewan_pattern *pattern, const uint8_t *archive, size_t len, uint64_t record);
 
 uint64_t charge_of_record(const poqewan_pattern *pattern, const uint8_t *archive, size_t len, uint64_t record)

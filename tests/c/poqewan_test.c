@@ -28,6 +28,7 @@ _Static_assert(POQEWAN_NO_TRAILER == 7, "no trailer");
 _Static_assert(POQEWAN_FALSE_DIRECTORY == 8, "false directory");
 _Static_assert(POQEWAN_RECORDS_APART == 9, "records apart");
 _Static_assert(POQEWAN_ZERO_IN_PATTERN == 10, "zero in pattern");
+_Static_assert(POQEWAN_SHORT_LENGTHS == 11, "short list of lengths");
 _Static_assert(POQEWAN_CLASSES_NOT_256 == 14, "classes not 256");
 _Static_assert(POQEWAN_ZERO_CLASS_SHARED == 15, "zero's class shared");
 
@@ -64,6 +65,9 @@ _Static_assert(offsetof(poqewan_first, refusal) == 0, "refusal");
 _Static_assert(offsetof(poqewan_first, found) == 4, "found");
 _Static_assert(offsetof(poqewan_first, position) == 8, "position");
 _Static_assert(offsetof(poqewan_first, count) == 16, "count");
+_Static_assert(sizeof(poqewan_lengths) == 16, "poqewan_lengths");
+_Static_assert(offsetof(poqewan_lengths, refusal) == 0, "refusal");
+_Static_assert(offsetof(poqewan_lengths, count) == 8, "count");
 _Static_assert(sizeof(poqewan_directory) == 16, "poqewan_directory");
 _Static_assert(offsetof(poqewan_directory, refusal) == 0, "refusal");
 _Static_assert(offsetof(poqewan_directory, records) == 4, "records");
@@ -78,7 +82,7 @@ _Static_assert(offsetof(poqewan_bounds, end) == 16, "end");
 #define PADDING_FROM (offsetof(poqewan_pattern, next) + sizeof ((poqewan_pattern *)NULL)->next)
 #define PADDING_TO offsetof(poqewan_pattern, marks)
 
-/* What lists and scratches hold before a call. */
+/* What lists and scratches hold before a call. No length is so great. */
 #define UNWRITTEN UINT32_C(0xA5A5A5A5)
 #define UNTOUCHED UINT16_C(0xA5A5)
 
@@ -126,12 +130,13 @@ static uint8_t *lend_bytes(const void *bytes, size_t len)
     return copy;
 }
 
-static uint16_t *lend_scratch(size_t len)
+/* A scratch, or a list of lengths. */
+static uint16_t *lend_numbers(size_t len)
 {
-    uint16_t *scratch = lend(len * sizeof *scratch);
+    uint16_t *numbers = lend(len * sizeof *numbers);
     for (size_t i = 0; i < len; i++)
-        scratch[i] = UNTOUCHED;
-    return scratch;
+        numbers[i] = UNTOUCHED;
+    return numbers;
 }
 
 static uint32_t *lend_list(size_t len)
@@ -142,10 +147,10 @@ static uint32_t *lend_list(size_t len)
     return list;
 }
 
-static bool scratch_is(const uint16_t *scratch, size_t from, size_t to, uint16_t number)
+static bool numbers_are(const uint16_t *numbers, size_t from, size_t to, uint16_t number)
 {
     for (size_t i = from; i < to; i++)
-        if (scratch[i] != number)
+        if (numbers[i] != number)
             return false;
     return true;
 }
@@ -218,6 +223,11 @@ static bool is_refused_first(poqewan_first first, uint32_t number)
     return first.refusal == number && first.found == 0 && first.position == 0 && first.count == 0;
 }
 
+static bool is_lengths(poqewan_lengths lengths, uint32_t refusal, uint64_t count)
+{
+    return lengths.refusal == refusal && lengths.count == count;
+}
+
 /* Field by field: what the padding holds is nobody's promise. */
 static bool is_zero(const poqewan_pattern *pattern)
 {
@@ -236,7 +246,7 @@ static poqewan_preparation prepare_by(const uint8_t *classes, size_t classes_len
                                       size_t scratch_len, uint32_t refusal)
 {
     uint8_t *lent = lend_bytes(bytes, len), *lent_classes = lend_bytes(classes, classes_len);
-    uint16_t *scratch = lend_scratch(scratch_len);
+    uint16_t *scratch = lend_numbers(scratch_len);
     poqewan_preparation p = poqewan_prepare(lent, len, lent_classes, classes_len, scratch, scratch_len);
     CHECK(p.refusal == refusal);
     CHECK(len == 0 || memcmp(lent, bytes, len) == 0);
@@ -245,12 +255,12 @@ static poqewan_preparation prepare_by(const uint8_t *classes, size_t classes_len
         CHECK(p.pattern.len == len);
         CHECK(memcmp(p.pattern.bytes, bytes, len) == 0);
         CHECK(memcmp(p.pattern.classes, classes, sizeof p.pattern.classes) == 0);
-        CHECK(scratch_is(scratch, 0, POQEWAN_SCRATCH, 0));
-        CHECK(scratch_is(scratch, POQEWAN_SCRATCH, scratch_len, UNTOUCHED));
+        CHECK(numbers_are(scratch, 0, POQEWAN_SCRATCH, 0));
+        CHECK(numbers_are(scratch, POQEWAN_SCRATCH, scratch_len, UNTOUCHED));
     } else {
         CHECK(p.compared == 0);
         CHECK(is_zero(&p.pattern));
-        CHECK(scratch_is(scratch, 0, scratch_len, UNTOUCHED));
+        CHECK(numbers_are(scratch, 0, scratch_len, UNTOUCHED));
     }
     free(scratch);
     free(lent_classes);
@@ -273,15 +283,19 @@ static poqewan_pattern prepared(const char *word)
     return prepared_by(own, word);
 }
 
-/* All searches must refuse with this number and leave the list as it is. */
+/* All searches must refuse with this number and leave the list as it is. The list of lengths has an entry for each byte. */
 static void check_refused(const poqewan_pattern *pattern, const uint8_t *text, size_t text_len, uint32_t number)
 {
     uint32_t *list = lend_list(4);
+    uint16_t *lengths = lend_numbers(text_len);
     CHECK(is_refused_first(poqewan_find_first(*pattern, text, text_len), number));
     for (int s = 0; s < SEARCHES; s++) {
         CHECK(is_refusal(searches[s](*pattern, text, text_len, UINT64_MAX, list, 4), number));
         CHECK(unwritten(list, 0, 4));
     }
+    CHECK(is_lengths(poqewan_prefix_lengths(*pattern, text, text_len, lengths, text_len), number, 0));
+    CHECK(numbers_are(lengths, 0, text_len, UNTOUCHED));
+    free(lengths);
     free(list);
 }
 
@@ -689,6 +703,7 @@ static void test_null(void)
 {
     uint8_t *a = lend_bytes("a", 1);
     uint32_t *list = lend_list(1);
+    uint16_t *lengths = lend_numbers(1);
     poqewan_pattern pattern = prepared("a");
 
     CHECK(poqewan_prepare(NULL, 0, NULL, 0, NULL, 0).refusal == POQEWAN_NO_PATTERN);
@@ -704,8 +719,14 @@ static void test_null(void)
     }
     CHECK(unwritten(list, 0, 1));
     CHECK(is_first(poqewan_find_first(pattern, NULL, 0), 0, 0, 0));
+    CHECK(is_lengths(poqewan_prefix_lengths(pattern, NULL, 0, NULL, 0), 0, 0));
+    CHECK(is_lengths(poqewan_prefix_lengths(pattern, NULL, 0, lengths, 1), 0, 0));
+    CHECK(is_lengths(poqewan_prefix_lengths(pattern, a, 0, lengths, 1), 0, 0));
+    CHECK(is_lengths(poqewan_prefix_lengths(pattern, a, 1, NULL, 0), POQEWAN_SHORT_LENGTHS, 0));
+    CHECK(numbers_are(lengths, 0, 1, UNTOUCHED));
     pattern.noholes++;
     check_refused(&pattern, NULL, 0, POQEWAN_FALSE_PATTERN);
+    free(lengths);
     free(list);
     free(a);
 }
@@ -716,6 +737,7 @@ static void test_changed_patterns(void)
 {
     static const char *const patterns[] = {"a", "aba", "aabaabaab"};
     uint8_t *text = lend_bytes("aabaabaabaab", 12);
+    uint16_t *lengths = lend_numbers(12);
     for (size_t i = 0; i < sizeof patterns / sizeof *patterns; i++) {
         poqewan_pattern pattern = prepared(patterns[i]), changed;
         for (size_t at = 0; at < sizeof pattern; at++) {
@@ -728,11 +750,13 @@ static void test_changed_patterns(void)
             if (PADDING_FROM <= at && at < PADDING_TO) {
                 CHECK(is_report(poqewan_colussi(changed, text, 12, 0, NULL, 0), POQEWAN_SPENT, 0, none, 0));
                 CHECK(poqewan_find_first(changed, text, 12).found == 1);
+                CHECK(poqewan_prefix_lengths(changed, text, 12, lengths, 12).refusal == 0);
             } else {
                 check_refused(&changed, text, 12, POQEWAN_FALSE_PATTERN);
             }
         }
     }
+    free(lengths);
     free(text);
 }
 
@@ -808,18 +832,24 @@ static bool under_ceiling(int search, poqewan_report report, size_t m, size_t n)
 }
 
 /* kmin, at each place: the least k for which it is the first place that differs from the one k before. There is none at a
-   hole, which has 0. */
+   hole, which has 0. At m, past the last place, it is the least k for which none differs: rmin(0). */
 static void fill_kmin(const poqewan_pattern *pattern, size_t *kmin)
 {
     size_t m = pattern->len;
-    memset(kmin, 0, m * sizeof *kmin);
+    memset(kmin, 0, (m + 1) * sizeof *kmin);
     for (size_t k = m; k > 0; k--) {
         size_t p = k;
         while (p < m && equal(pattern, pattern->bytes[p], pattern->bytes[p - k]))
             p++;
-        if (p < m)
-            kmin[p] = k;
+        kmin[p] = k;
     }
+}
+
+/* The shift of Knuth, Morris and Pratt with so much matched: at a nohole kmin, at a hole one more than the place, and after an
+   occurrence rmin(0). */
+static size_t kmp_shift(const size_t *kmin, size_t i)
+{
+    return kmin[i] > 0 ? kmin[i] : i + 1;
 }
 
 /* The report by document 01's rules, with the pattern's order, shifts and nexts. Each comparison goes into the column of
@@ -827,7 +857,7 @@ static void fill_kmin(const poqewan_pattern *pattern, size_t *kmin)
 static poqewan_report by_rules(int search, const poqewan_pattern *pattern, const uint8_t *text, size_t n, uint64_t cap,
                                size_t list_len)
 {
-    size_t m = pattern->len, b = 0, i = 0, e = 0, kmin[POQEWAN_LONGEST_PATTERN];
+    size_t m = pattern->len, b = 0, i = 0, e = 0, kmin[POQEWAN_LONGEST_PATTERN + 1];
     poqewan_report r = {0};
     fill_kmin(pattern, kmin);
     while (b + m <= n) {
@@ -862,7 +892,7 @@ static poqewan_report by_rules(int search, const poqewan_pattern *pattern, const
             b += pattern->shift[i];
             i = pattern->next[i];
         } else {
-            size_t shift = i == m ? pattern->shift[m] : kmin[i] > 0 ? kmin[i] : i + 1;
+            size_t shift = kmp_shift(kmin, i);
             b += shift;
             i = i > shift ? i - shift : 0;
         }
@@ -887,8 +917,85 @@ static void check_first(const poqewan_pattern *pattern, const uint8_t *text, siz
     CHECK(under_ceiling(COLUSSI, rules, pattern->len, n));
 }
 
-/* Runs one search and checks what is promised of any report; where the one in Colussi's order is run to its end, the first
-   position as well. Gives the report. */
+/* The longest prefix of the pattern that begins at a position, by the naive search. */
+static size_t longest_prefix(const poqewan_pattern *pattern, const uint8_t *text, size_t n, size_t x)
+{
+    size_t len = 0;
+    while (len < pattern->len && x + len < n && equal(pattern, pattern->bytes[len], text[x + len]))
+        len++;
+    return len;
+}
+
+/* The count of the prefix lengths by document 01's rules, carried on to the text's end; and what of it is made in windows
+   that lie within the text. */
+static uint64_t count_to_the_end(const poqewan_pattern *pattern, const uint8_t *text, size_t n, uint64_t *within)
+{
+    size_t m = pattern->len, b = 0, i = 0, kmin[POQEWAN_LONGEST_PATTERN + 1];
+    uint64_t count = 0;
+    *within = 0;
+    fill_kmin(pattern, kmin);
+    while (b + i < n) {
+        if (i < m) {
+            count++;
+            *within += b + m <= n;
+            if (equal(pattern, pattern->bytes[i], text[b + i])) {
+                i++;
+                continue;
+            }
+        }
+        size_t shift = kmp_shift(kmin, i);
+        b += shift;
+        i = i > shift ? i - shift : 0;
+    }
+    return count;
+}
+
+/* Asks for the prefix lengths: with an entry less than the text has bytes, which is refused; with as many; and with one more,
+   which stays. */
+static void check_lengths(const poqewan_pattern *pattern, const uint8_t *text, size_t n, const uint16_t *expected,
+                          uint64_t count)
+{
+    for (size_t list_len = n == 0 ? 0 : n - 1; list_len <= n + 1; list_len++) {
+        uint16_t *list = lend_numbers(list_len);
+        poqewan_lengths lengths = poqewan_prefix_lengths(*pattern, text, n, list, list_len);
+        if (list_len < n) {
+            CHECK(is_lengths(lengths, POQEWAN_SHORT_LENGTHS, 0));
+            CHECK(numbers_are(list, 0, list_len, UNTOUCHED));
+        } else {
+            CHECK(is_lengths(lengths, 0, count));
+            CHECK(n == 0 || memcmp(list, expected, n * sizeof *list) == 0);
+            CHECK(numbers_are(list, n, list_len, UNTOUCHED));
+        }
+        free(list);
+    }
+}
+
+/* Checks the prefix lengths: they are those of the naive search, and m exactly at the positions of the full list of Knuth,
+   Morris and Pratt, which is given; the count is the rules', in the windows within the text that of the given report, and at
+   most 2 * n. */
+static void check_lengths_by_rules(const poqewan_pattern *pattern, const uint8_t *text, size_t n, poqewan_report full,
+                                   const uint32_t *list)
+{
+    uint16_t *expected = lend(n * sizeof *expected);
+    size_t whole = 0;
+    bool listed = true;
+    for (size_t x = 0; x < n; x++) {
+        expected[x] = (uint16_t)longest_prefix(pattern, text, n, x);
+        if (expected[x] == pattern->len) {
+            listed = listed && whole < full.written && list[whole] == x;
+            whole++;
+        }
+    }
+    uint64_t within, count = count_to_the_end(pattern, text, n, &within);
+    check_lengths(pattern, text, n, expected, count);
+    CHECK(listed && whole == full.written);
+    CHECK(within == full.count);
+    CHECK(count <= 2 * n);
+    free(expected);
+}
+
+/* Runs one search and checks what is promised of any report; where it is run to its end, in Colussi's order the first position
+   as well, and by Knuth, Morris and Pratt the prefix lengths. Gives the report. */
 static poqewan_report check_search(int search, const poqewan_pattern *pattern, const uint8_t *text, size_t n,
                                    uint64_t cap, size_t list_len)
 {
@@ -913,6 +1020,8 @@ static poqewan_report check_search(int search, const poqewan_pattern *pattern, c
         CHECK(r.written == list_len && occurs(pattern, text, n, r.window));
     if (search == COLUSSI && r.ending == POQEWAN_DONE)
         check_first(pattern, text, n, r, list);
+    if (search == KMP && r.ending == POQEWAN_DONE)
+        check_lengths_by_rules(pattern, text, n, r, list);
     free(list);
     return r;
 }
@@ -1192,6 +1301,322 @@ static void test_long_text(void)
     check_refused(&pattern, text, n, POQEWAN_LONG_TEXT);
     pattern.noholes++;
     check_refused(&pattern, text, n, POQEWAN_FALSE_PATTERN);
+    free(text);
+}
+
+/* Worked by hand from document 01's rules of Knuth, Morris and Pratt, carried on to the text's end: the lengths, with the
+   places that are compared, a word for each window. Texts longer than the pattern, shorter, as long, and empty; patterns of
+   one byte; document 01's records; misses up to the last byte; comparisons in windows that reach past the text's end; lengths
+   that the pattern's periods would make longer than what is matched; and by the joined classes. */
+static const struct lengths_record {
+    const uint8_t *classes;
+    const char *pattern, *text;
+    uint16_t lengths[10];
+    const char *compared;
+} lengths_records[] = {
+    {own, "aba", "ababa", {3, 0, 3, 0, 1}, "012 12"},
+    {own, "aba", "ab", {2, 0}, "01"},
+    {own, "ab", "aaaa", {1, 1, 1, 1}, "01 01 01 0"},
+    {own, "aba", "", {0}, ""},
+    {own, "aba", "a", {1}, "0"},
+    {own, "aba", "c", {0}, "0"},
+    {own, "abab", "ac", {1, 0}, "01 0"},
+    {own, "aabaa", "aaab", {2, 3, 1, 0}, "012 12"},
+    {own, "aba", "aba", {3, 0, 1}, "012"},
+    {own, "aa", "aa", {2, 1}, "01"},
+    {own, "ab", "ba", {0, 1}, "0 0"},
+    {own, "a", "", {0}, ""},
+    {own, "a", "a", {1}, "0"},
+    {own, "a", "b", {0}, "0"},
+    {own, "a", "aab", {1, 1, 0}, "0 0 0"},
+    {own, "aa", "aaaa", {2, 2, 2, 1}, "01 1 1"},
+    {own, "aabaa", "aabaaaabaa", {5, 1, 0, 2, 2, 5, 1, 0, 2, 1}, "01234 2 12 1234"},
+    {own, "aab", "aaaaab", {2, 2, 2, 3, 1, 0}, "012 12 12 12"},
+    {own, "abab", "abacabab", {3, 0, 1, 0, 4, 0, 2, 0}, "0123 0 0123"},
+    {own, "aba", "abcaba", {2, 0, 0, 3, 0, 1}, "012 012"},
+    {own, "abb", "cabb", {0, 3, 0, 0}, "0 012"},
+    {own, "ab", "aac", {1, 1, 0}, "01 01 0"},
+    {own, "aba", "abab", {3, 0, 2, 0}, "012 1"},
+    {own, "abab", "ababab", {4, 0, 4, 0, 2, 0}, "0123 23"},
+    {own, "aaaa", "aabaa", {2, 1, 0, 2, 1}, "012 01"},
+    {own, "abaababa", "abaab", {5, 0, 1, 2, 0}, "01234"},
+    {own, "aaab", "aaac", {3, 2, 1, 0}, "0123 2"},
+    {own, "abcabd", "abcabcabd", {5, 0, 0, 6, 0, 0, 2, 0, 0}, "012345 2345"},
+    {joined, "aBa", "DbAcA", {0, 0, 3, 0, 1}, "0 0 012"},
+    {joined, "bca", "bbacabca", {3, 1, 0, 1, 0, 3, 1, 0}, "012 01 012"},
+    {joined, "abAB", "aBAbAba", {4, 0, 4, 0, 3, 0, 1}, "0123 23 2"},
+    {joined, "aCb", "Ab", {2, 0}, "01"},
+};
+
+static void test_worked_lengths(void)
+{
+    for (size_t i = 0; i < sizeof lengths_records / sizeof *lengths_records; i++) {
+        const struct lengths_record *r = &lengths_records[i];
+        poqewan_pattern pattern = prepared_by(r->classes, r->pattern);
+        size_t n = strlen(r->text);
+        uint8_t *text = lend_bytes(r->text, n);
+        uint64_t count = 0;
+        for (const char *c = r->compared; *c != '\0'; c++)
+            count += *c != ' ';
+        check_lengths(&pattern, text, n, r->lengths, count);
+        CHECK(n == 0 || memcmp(text, r->text, n) == 0);
+        free(text);
+    }
+}
+
+/* A byte 0 of the text ends every prefix. By hand: 012 1 0 012 12 1 0 01 0 0 are compared. */
+static void test_zero_in_text_of_lengths(void)
+{
+    static const uint16_t expected[] = {3, 0, 1, 0, 3, 0, 3, 0, 1, 0, 1, 0, 1};
+    uint8_t *text = lend_bytes("aba\0ababa\0a\0a", 13);
+    poqewan_pattern pattern = prepared("aba");
+    check_lengths(&pattern, text, 13, expected, 16);
+    free(text);
+}
+
+/* Each value as a pattern of one byte, in a text of all values: it is equal to itself alone. */
+static void test_lengths_of_each_value(void)
+{
+    uint8_t *text = lend_bytes(own, POQEWAN_CLASSES);
+    for (unsigned value = 1; value < POQEWAN_CLASSES; value++) {
+        uint8_t byte = (uint8_t)value;
+        uint16_t expected[POQEWAN_CLASSES] = {0};
+        expected[value] = 1;
+        poqewan_pattern pattern = prepare(&byte, 1, POQEWAN_SCRATCH, 0).pattern;
+        check_lengths(&pattern, text, POQEWAN_CLASSES, expected, POQEWAN_CLASSES);
+    }
+    free(text);
+}
+
+/* In a text of one letter, and of so many bytes: the same letter m times compares each byte once. With another one at the end
+   each window that lies within the text ends with a miss there, and each after the first has two comparisons, the place
+   before and the miss; then comes one more for the last byte. */
+static void check_equal_text(size_t m, size_t n)
+{
+    uint8_t bytes[POQEWAN_LONGEST_PATTERN], *text = lend(n);
+    uint16_t *expected = lend(n * sizeof *expected);
+    memset(bytes, 'a', m);
+    if (n > 0)
+        memset(text, 'a', n);
+    poqewan_pattern pattern = prepare(bytes, m, POQEWAN_SCRATCH, 0).pattern;
+    for (size_t x = 0; x < n; x++)
+        expected[x] = (uint16_t)(n - x < m ? n - x : m);
+    check_lengths(&pattern, text, n, expected, n);
+
+    if (m > 1) {
+        bytes[m - 1] = 'b';
+        pattern = prepare(bytes, m, POQEWAN_SCRATCH, 0).pattern;
+        for (size_t x = 0; x < n; x++)
+            expected[x] = (uint16_t)(n - x < m - 1 ? n - x : m - 1);
+        check_lengths(&pattern, text, n, expected, n < m ? n : 2 * n - m + 1);
+    }
+    free(expected);
+    free(text);
+}
+
+static void test_equal_texts(void)
+{
+    static const size_t lengths[] = {1, 2, 3, 16, 255, 256};
+    for (size_t i = 0; i < sizeof lengths / sizeof *lengths; i++) {
+        size_t m = lengths[i], sizes[] = {0, 1, AROUND(m), AROUND(2 * m), 600};
+        for (size_t j = 0; j < sizeof sizes / sizeof *sizes; j++)
+            check_equal_text(m, sizes[j]);
+    }
+}
+
+/* The longest pattern in itself, and in all of itself but the last byte or the first. Its lengths go up to 256. */
+static void test_longest_pattern_in_itself(void)
+{
+    const size_t m = POQEWAN_LONGEST_PATTERN;
+    uint16_t expected[POQEWAN_LONGEST_PATTERN];
+    uint8_t *text = lend(m), *shorter = lend(m - 1);
+    memset(text, 'a', m);
+    poqewan_pattern pattern = prepare(text, m, POQEWAN_SCRATCH, 0).pattern;
+    for (size_t x = 0; x < m; x++)
+        expected[x] = (uint16_t)(m - x);
+    check_lengths(&pattern, text, m, expected, m);
+
+    text[m - 1] = 'b';
+    pattern = prepare(text, m, POQEWAN_SCRATCH, 0).pattern;
+    for (size_t x = 1; x < m; x++)
+        expected[x] = (uint16_t)(m - 1 - x);
+    check_lengths(&pattern, text, m, expected, m);
+
+    memcpy(shorter, text, m - 1);
+    for (size_t x = 0; x < m - 1; x++)
+        expected[x] = (uint16_t)(m - 1 - x);
+    check_lengths(&pattern, shorter, m - 1, expected, m - 1);
+
+    /* A miss at place 254, which is a hole: the window moves past the text. */
+    memcpy(shorter, text + 1, m - 1);
+    for (size_t x = 0; x < m - 1; x++)
+        expected[x] = (uint16_t)(m - 2 - x);
+    check_lengths(&pattern, shorter, m - 1, expected, m - 1);
+    free(shorter);
+    free(text);
+}
+
+/* The word of a number over so many letters: its digits, from the least. */
+static void put_word(uint8_t *word, size_t len, size_t letters, size_t number)
+{
+    for (size_t i = 0; i < len; i++) {
+        word[i] = (uint8_t)('a' + number % letters);
+        number /= letters;
+    }
+}
+
+static size_t words_of(size_t len, size_t letters)
+{
+    size_t words = 1;
+    while (len-- > 0)
+        words *= letters;
+    return words;
+}
+
+/* Every pattern in every text, over so many letters and up to these lengths. */
+static void check_all_words(size_t letters, size_t longest_pattern, size_t longest_text)
+{
+    uint8_t bytes[POQEWAN_LONGEST_PATTERN];
+    for (size_t m = 1; m <= longest_pattern; m++)
+        for (size_t word = 0; word < words_of(m, letters); word++) {
+            put_word(bytes, m, letters, word);
+            poqewan_pattern pattern = prepare(bytes, m, POQEWAN_SCRATCH, 0).pattern;
+            for (size_t n = 0; n <= longest_text; n++) {
+                uint8_t *text = lend(n);
+                for (size_t number = 0; number < words_of(n, letters); number++) {
+                    put_word(text, n, letters, number);
+                    CHECK(check_search(KMP, &pattern, text, n, UINT64_MAX, n + 1).ending == POQEWAN_DONE);
+                }
+                free(text);
+            }
+        }
+}
+
+static void test_all_words(bool quick)
+{
+    check_all_words(2, quick ? 3 : 6, quick ? 5 : 9);
+    check_all_words(3, quick ? 2 : 4, quick ? 3 : 6);
+}
+
+/* A byte of that class, other than 0. */
+static uint8_t member_of(const uint8_t *classes, uint8_t class)
+{
+    uint8_t v;
+    do
+        v = (uint8_t)(1 + random_below(255));
+    while (classes[v] != class);
+    return v;
+}
+
+/* Powers of random words, of every length, long ones soon, every second round with a byte changed; in texts that are pieces of the
+   pattern, from its start or from within, with any byte between them now and then. One to three classes beside that of 0; a
+   byte of a piece is any of its class. */
+static void test_random_lengths(size_t rounds)
+{
+    uint8_t bytes[POQEWAN_LONGEST_PATTERN], classes[POQEWAN_CLASSES];
+    size_t found = 0;
+    for (size_t round = 0; round < rounds; round++) {
+        size_t others = 1 + random_below(3), of_zero = random_below(256);
+        for (size_t v = 0; v < POQEWAN_CLASSES; v++)
+            classes[v] = (uint8_t)(of_zero + (v == 0 ? 0 : 1 + random_below(others)));
+        size_t m = 1 + round / 2 * 37 % POQEWAN_LONGEST_PATTERN, root = 1 + random_below(random_below(2) ? m : 1 + m / 4);
+        for (size_t p = 0; p < m; p++)
+            bytes[p] = p < root ? (uint8_t)(1 + random_below(255)) : member_of(classes, classes[bytes[p - root]]);
+        if (round % 2 == 1)
+            bytes[random_below(m)] = (uint8_t)(1 + random_below(255));
+        poqewan_pattern pattern = prepare_by(classes, POQEWAN_CLASSES, bytes, m, POQEWAN_SCRATCH, 0).pattern;
+
+        size_t n = random_below(3 * m + 8);
+        uint8_t *text = lend(n);
+        for (size_t at = 0; at < n;) {
+            size_t from = random_below(2) ? 0 : random_below(m);
+            size_t len = random_below(3) == 0 ? m - from : random_below(m - from + 1);
+            for (size_t p = from; p < from + len && at < n; p++)
+                text[at++] = member_of(classes, classes[bytes[p]]);
+            if (at < n && random_below(3) == 0)
+                text[at++] = (uint8_t)random_below(256);
+        }
+        found += check_search(KMP, &pattern, text, n, UINT64_MAX, n + 1).written;
+        free(text);
+    }
+    CHECK(found > 0);
+}
+
+/* Every choice of the three conditions, and lists that are short by one, by all but one, and by all entries: the first
+   condition, in the order of the tests, is what is told. */
+static void test_order_of_lengths_tests(void)
+{
+    enum { IS_FALSE = 1, IS_LONG = 2, IS_SHORT = 4, ALL = 7 };
+    static const uint32_t refusals[] = {4, 5, 11};
+    poqewan_pattern pattern = prepared("ab"), wrong = pattern;
+    wrong.noholes++;
+    for (int is_long = 0; is_long <= IS_LONG; is_long += IS_LONG) {
+        size_t n = is_long ? POQEWAN_LONGEST_TEXT + 1 : 5;
+        uint8_t *text = lend(n);
+        memset(text, 'a', n);
+        for (int chosen = 0; chosen <= ALL; chosen++) {
+            if ((chosen & IS_LONG) != is_long)
+                continue;
+            uint32_t refusal = 0;
+            for (int i = 2; i >= 0; i--)
+                if (chosen & 1 << i)
+                    refusal = refusals[i];
+            size_t too_few[] = {n - 1, 1, 0};
+            for (size_t i = 0; i < (chosen & IS_SHORT ? 3 : 1); i++) {
+                size_t list_len = chosen & IS_SHORT ? too_few[i] : n;
+                uint16_t *list = lend_numbers(list_len);
+                poqewan_lengths lengths =
+                    poqewan_prefix_lengths(chosen & IS_FALSE ? wrong : pattern, text, n, list, list_len);
+                CHECK(is_lengths(lengths, refusal, refusal == 0 ? 2 * n - 1 : 0));
+                CHECK(numbers_are(list, 0, refusal == 0 ? n : 0, 1));
+                CHECK(numbers_are(list, refusal == 0 ? n : 0, list_len, UNTOUCHED));
+                free(list);
+            }
+        }
+        free(text);
+    }
+}
+
+/* Texts and lists around 2^16; and lists whose number is right in its lower half alone. aba in ababab... compares each
+   byte once. */
+static void test_lengths_past_16_bits(void)
+{
+    static const size_t sizes[] = {AROUND(65536), AROUND(2 * 65536)};
+    poqewan_pattern pattern = prepared("aba");
+    for (size_t i = 0; i < sizeof sizes / sizeof *sizes; i++) {
+        size_t n = sizes[i];
+        uint8_t *text = lend(n);
+        uint16_t *expected = lend(n * sizeof *expected);
+        for (size_t x = 0; x < n; x++) {
+            text[x] = x % 2 == 0 ? 'a' : 'b';
+            expected[x] = (uint16_t)(x % 2 == 1 ? 0 : n - x < 3 ? n - x : 3);
+        }
+        check_lengths(&pattern, text, n, expected, n);
+        uint16_t *list = lend_numbers(n % 65536);
+        poqewan_lengths lengths = poqewan_prefix_lengths(pattern, text, n, list, n % 65536);
+        CHECK(n < 65536 ? is_lengths(lengths, 0, n) : is_lengths(lengths, POQEWAN_SHORT_LENGTHS, 0));
+        free(list);
+        free(expected);
+        free(text);
+    }
+}
+
+/* In a text of the greatest length: ab compares two places in each window but the last, which lies past the occurrence. */
+static void test_lengths_of_longest_text(void)
+{
+    const size_t n = POQEWAN_LONGEST_TEXT;
+    poqewan_pattern pattern = prepared("ab");
+    uint8_t *text = lend(n);
+    memset(text, 'a', n);
+    text[n - 1] = 'b';
+    uint16_t *list = lend_numbers(n);
+    CHECK(is_lengths(poqewan_prefix_lengths(pattern, text, n, list, n), 0, 2 * n - 2));
+    CHECK(numbers_are(list, 0, n - 2, 1) && list[n - 2] == 2 && list[n - 1] == 0);
+    free(list);
+    list = lend_numbers(n - 1);
+    CHECK(is_lengths(poqewan_prefix_lengths(pattern, text, n, list, n - 1), POQEWAN_SHORT_LENGTHS, 0));
+    CHECK(numbers_are(list, 0, n - 1, UNTOUCHED));
+    free(list);
     free(text);
 }
 
@@ -1962,6 +2387,17 @@ int main(int argc, char **argv)
     if (!quick)
         test_longest_list();
     test_long_text();
+    test_worked_lengths();
+    test_zero_in_text_of_lengths();
+    test_lengths_of_each_value();
+    test_equal_texts();
+    test_longest_pattern_in_itself();
+    test_all_words(quick);
+    test_random_lengths(quick ? 128 : 4096);
+    test_order_of_lengths_tests();
+    test_lengths_past_16_bits();
+    if (!quick)
+        test_lengths_of_longest_text();
     test_worked_archive();
     test_worked_records_in_archives();
     test_layouts();

@@ -15,6 +15,9 @@ use Rattle.first.specs.declared.FirstAnswer.the-variants.{At, Absent}
 use Rattle.first.specs.declared.FirstAnswer.the-variants as firsts
 use Rattle.intake.specs.declared.Outcome.{Outcome}
 use Rattle.intake.specs.declared.Outcome.the-variants as outcomes
+use Rattle.lengths.specs.declared.LengthsAnswer.{LengthsAnswer}
+use Rattle.lengths.specs.declared.LengthsAnswer.the-variants as lengths
+use Rattle.lengths.specs.Promise.{IfCounted}
 use Rattle.refusal.proofs.NotZero.{number-not-0}
 use Rattle.rules.specs.declared.Ending.{Ending}
 use Rattle.rules.specs.declared.Ending.the-variants.{Done, Spent, Full}
@@ -22,9 +25,10 @@ use Rattle.rules.specs.declared.Report.{Report}
 use Rattle.search.specs.declared.SearchAnswer.{SearchAnswer}
 use Rattle.search.specs.declared.SearchAnswer.the-variants.{Ran, Refused}
 use Rattle.search.specs.Promise.{IfRan}
-use Rattle.carried.specs.Carried.{outcomeNumber, endingNumber, endingWindow, endingOf, carriedReport, carried, reportIn, carriedFirst, firstIn, noSuchRecord, carriedRecord, Searched, carriedDirectory, directoryIn, carriedBounds, boundsIn}
+use Rattle.carried.specs.Carried.{outcomeNumber, endingNumber, endingWindow, endingOf, carriedReport, carried, reportIn, carriedFirst, firstIn, carriedLengths, noSuchRecord, carriedRecord, Searched, carriedDirectory, directoryIn, carriedBounds, boundsIn}
 use Rattle.carried.specs.declared.SearchReport.{SearchReport}
 use Rattle.carried.specs.declared.First.{First}
+use Rattle.carried.specs.declared.Lengths.{Lengths}
 use Rattle.carried.specs.declared.ArchiveDirectory.{ArchiveDirectory}
 use Rattle.carried.specs.declared.RecordBounds.{RecordBounds}
 
@@ -57,6 +61,14 @@ first-back a e none = rw e (of a (rw e at none))
     of (At b count) z = refl
     of (Absent count) z = refl
     of (firsts.Refused why) z = absurd (number-not-0 why z)
+
+-- What is promised of a count of the call for prefix lengths holds of the one that C receives with refusal 0.
+pub count-promised-to-c : (P : ℕ → Type 0) (a : LengthsAnswer) {r : Lengths} → r ≡ carriedLengths a → IfCounted P a → r .refusal ≡ 0 → P (r .count)
+count-promised-to-c P a e holds none = rw e (of a holds (rw e at none))
+  where
+    of : (a : LengthsAnswer) → IfCounted P a → carriedLengths a .refusal ≡ 0 → P (carriedLengths a .count)
+    of (lengths.Counted count) holds z = holds
+    of (lengths.Refused why) holds z = absurd (number-not-0 why z)
 
 -- ---- Archives
 

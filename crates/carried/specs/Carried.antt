@@ -14,6 +14,8 @@ use Rattle.first.specs.declared.FirstAnswer.the-variants.{At, Absent}
 use Rattle.first.specs.declared.FirstAnswer.the-variants as firsts
 use Rattle.intake.specs.declared.Outcome.{Outcome}
 use Rattle.intake.specs.declared.Outcome.the-variants.{Ready, Refused}
+use Rattle.lengths.specs.declared.LengthsAnswer.{LengthsAnswer}
+use Rattle.lengths.specs.declared.LengthsAnswer.the-variants as lengths
 use Rattle.preparation.specs.declared.Prepared.{Prepared}
 use Rattle.refusal.specs.Numbers.{numberOf}
 use Rattle.rules.specs.declared.Ending.{Ending}
@@ -25,6 +27,7 @@ use Rattle.search.specs.declared.SearchAnswer.the-variants as answers
 use Rattle.carried.specs.declared.Preparation.{Preparation}
 use Rattle.carried.specs.declared.SearchReport.{SearchReport}
 use Rattle.carried.specs.declared.First.{First}
+use Rattle.carried.specs.declared.Lengths.{Lengths}
 use Rattle.carried.specs.declared.ArchiveDirectory.{ArchiveDirectory}
 use Rattle.carried.specs.declared.RecordBounds.{RecordBounds}
 
@@ -97,6 +100,11 @@ foundAt (suc n) b count = At b count
 
 abbrev pub firstIn : First → FirstAnswer
 firstIn r = foundAt (r .found) (r .position) (r .count)
+
+-- The answer of the call for prefix lengths.
+abbrev pub carriedLengths : LengthsAnswer → Lengths
+carriedLengths (lengths.Counted count) = record { refusal = 0; count = count }
+carriedLengths (lengths.Refused why) = record { refusal = numberOf why; count = 0 }
 
 -- ---- Archives
 

@@ -3,6 +3,7 @@
 mod archives;
 mod firsts;
 mod numbers;
+mod prefix_lengths;
 mod reports;
 
 pub use archives::archive_directory;
@@ -11,6 +12,7 @@ pub use archives::carry_record;
 pub use firsts::carry_first;
 pub use numbers::outcome_number;
 use pattern::Pattern;
+pub use prefix_lengths::carry_lengths;
 pub use reports::carry;
 
 // The number of a refusal, and then all else is 0; or 0, how many pairs of the pattern's letters were compared to build hmax, and the pattern.
@@ -41,6 +43,13 @@ pub struct First {
     pub refusal: u32,
     pub found: u32,
     pub position: usize,
+    pub count: u64,
+}
+
+// The number of a refusal, and then all else is 0; or 0 and the count of comparisons.
+#[repr(C)]
+pub struct Lengths {
+    pub refusal: u32,
     pub count: u64,
 }
 

@@ -1,17 +1,19 @@
 // What C and Rust may call: the proved functions over numbers, slices and structs of a fixed layout. No function has a precondition, so
 // nothing is asked of a caller but what C asks of pointers.
 use carried::First;
+use carried::Lengths;
 use carried::Preparation;
 use carried::SearchReport;
 use carried::carry;
 use carried::carry_first;
+use carried::carry_lengths;
 use carried::outcome_number;
 use pattern::Pattern;
 ghost use mathlib.Core.Path.{_≡_};
 ghost use mathlib.Core.Logic.{_↔_};
 ghost use Prim.Native.Nat.{_+_, _*_, _≤_, _<_};
 ghost use lib.ListN.{length};
-ghost use Rattle.carried.specs.Carried.{carriedPreparation, carried, reportIn, carriedFirst, firstIn};
+ghost use Rattle.carried.specs.Carried.{carriedPreparation, carried, reportIn, carriedFirst, firstIn, carriedLengths};
 ghost use Rattle.charge.specs.Charged.{charged};
 ghost use Rattle.classes.specs.Classes.{identity, identityIn};
 ghost use Rattle.first.specs.Answer.{firstBy, plainFirstBy};
@@ -19,10 +21,14 @@ ghost use Rattle.first.specs.Promise.{FirstOfFull, FirstInBytes, FirstUnderCeil
 ghost use Rattle.intake.specs.Sizes.{scratchSize};
 ghost use Rattle.intake.specs.Outcomes.{Preparable, Usable};
 ghost use Rattle.hmax.specs.FastMethod.{FewCompared};
+ghost use Rattle.lengths.specs.Answer.{answerOf, listOf, plainAnswerOf, plainListOf};
+ghost use Rattle.lengths.specs.Promise.{EachLongest, WholeWhere};
 ghost use Rattle.pattern.specs.Letters.{ownBytes, wordOf, textOf};
 ghost use Rattle.preparation.specs.Prepared.{prepared, plainPrepared, scratchAfter, plainScratch, Cleared};
+ghost use Rattle.prefixes.specs.Promise.{FewFor, AsKmp};
 ghost use Rattle.rules.specs.Colussi.{colussi};
 ghost use Rattle.rules.specs.Kmp.{kmp};
+ghost use Rattle.rules.specs.Occurs.{occurrences};
 ghost use Rattle.rules.specs.Report.{Columns};
 ghost use Rattle.search.specs.Answer.{answerBy, listBy, plainAnswerBy, plainListBy};
 ghost use Rattle.search.specs.Promise.{Located, ListedBy, UnderCeiling, UnderKmpCeiling, AsColussi, NoZeroCovered};
@@ -119,6 +125,26 @@ pub extern "C" fn poqewan_find_first(pattern: Pattern, text: &[u8]) -> First
     ensures plain { λ r. ⌜ (pattern .classes ≡ identity → r ≡ carriedFirst (plainFirstBy pattern (now (text .entry)))) ⌝ }
 {
     carry_first(first::find_first(pattern, text))
+}
+
+// Writes the length of the longest prefix of the pattern that begins at each position of a text into the list's entry for it. The entries past them
+// are unchanged. Refused, in this order, with the list unchanged: a pattern that is not what preparation gives for its own length, bytes and
+// classes (4), a text that is longer than the longest (5), a list with fewer entries than the text has bytes (11).
+#[no_mangle]
+pub extern "C" fn poqewan_prefix_lengths(
+    pattern: Pattern,
+    text: &[u8],
+    lengths: &mut [u16],
+) -> Lengths
+    ensures answer { λ r. ⌜ r ≡ carriedLengths (answerOf pattern (now (text .entry)) (length (now (lengths .entry)))) ⌝ }
+    ensures list { λ r. ⌜ now (lengths .exit) ≡ listOf pattern (now (text .entry)) (now (lengths .entry)) ⌝ }
+    ensures longest { λ r. ⌜ (r .refusal ≡ 0 → EachLongest (pattern .classes) (ownBytes pattern) (now (text .entry)) (now (lengths .exit))) ⌝ }
+    ensures whole { λ r. ⌜ (r .refusal ≡ 0 → WholeWhere (pattern .classes) (ownBytes pattern) (now (text .entry)) (occurrences (wordOf pattern) (textOf pattern (now (text .entry)))) (now (lengths .exit))) ⌝ }
+    ensures ceiling { λ r. ⌜ (r .refusal ≡ 0 → FewFor (length (now (text .entry))) (r .count)) ⌝ }
+    ensures kmp { λ r. ⌜ (r .refusal ≡ 0 → AsKmp (wordOf pattern) (textOf pattern (now (text .entry)))) ⌝ }
+    ensures plain { λ r. ⌜ (pattern .classes ≡ identity → (r ≡ carriedLengths (plainAnswerOf pattern (now (text .entry)) (length (now (lengths .entry))))) × (now (lengths .exit) ≡ plainListOf pattern (now (text .entry)) (now (lengths .entry)))) ⌝ }
+{
+    carry_lengths(lengths::prefix_lengths(pattern, text, lengths))
 }
 
 // The charge of a count of comparisons: its started thousands.

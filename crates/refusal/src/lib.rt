@@ -24,6 +24,8 @@ pub enum Refusal {
     RecordsApart,
     // C-13: the motif holds byte 0
     ZeroInPattern,
+    // C-14: the lent list is shorter than the record
+    ShortLengths,
     // C-19: the chart hasn't 256 bytes
     ClassesNot256,
     // C-19: another value shares the class of 0
@@ -46,6 +48,7 @@ impl Refusal {
             Refusal::FalseDirectory => 8,
             Refusal::RecordsApart => 9,
             Refusal::ZeroInPattern => 10,
+            Refusal::ShortLengths => 11,
             Refusal::ClassesNot256 => 14,
             Refusal::ZeroClassShared => 15,
         }

@@ -4,20 +4,22 @@
 
 pub mod archives;
 pub mod classes;
+pub mod lengths;
 pub mod worked;
 
 use crate::oracle::{self, Listed, Tables, CLASSES};
 use archives::{assert_record_refused, packed};
+use lengths::assert_lengths_refused;
 use poqewan::{Ending, First, Pattern, Preparation, Refusal, Report, SCRATCH};
 
 /// What lists hold before a search. No text is long enough to have such a position.
 pub const UNWRITTEN: u32 = 0xA5A5_A5A5;
 
-/// How many searches are checked for each one that is asked again of a record. It is odd, so both
-/// methods have their turn.
+/// How many searches are checked for each one that is asked again of a record, and with it for the
+/// prefix lengths. It is odd, so both methods have their turn.
 const EVERY: usize = 7;
 
-/// The longest text that is asked for again as a record.
+/// The longest text for which that is done.
 const SHORT: usize = 1_000;
 
 /// The two searches.
@@ -129,6 +131,10 @@ impl Trial {
         &self.pattern
     }
 
+    pub fn tables(&self) -> &Tables {
+        &self.tables
+    }
+
     /// Runs both searches to the end, with a list that has an entry to spare.
     pub fn check_to_the_end(&mut self, text: &[u8]) -> [Report; 2] {
         let reports = self.check(text, u64::MAX, text.len() + 1);
@@ -138,7 +144,7 @@ impl Trial {
 
     /// Runs both searches and checks all that is promised of them. Where Colussi's is run to its
     /// end, the answer for the first position is checked too. Some of the searches are asked again
-    /// of the text as a record of an archive.
+    /// of the text as a record of an archive, and then the prefix lengths are checked as well.
     pub fn check(&mut self, text: &[u8], cap: u64, list_len: usize) -> [Report; 2] {
         let occurrences = self.occurrences(text);
         Method::BOTH.map(|method| self.check_one(method, text, cap, list_len, &occurrences))
@@ -211,6 +217,7 @@ impl Trial {
         self.searches += 1;
         if self.searches % EVERY == 0 && text.len() <= SHORT {
             self.check_as_record(method, text, cap, &expected);
+            self.check_lengths(text);
         }
         expected
     }
@@ -356,17 +363,23 @@ pub fn check_value(value: &Pattern) -> bool {
         Some(tables) => {
             let mut trial = Trial::with_classes(&tables.bytes, &tables.classes);
             assert_eq!(trial.pattern(), value);
-            trial.check_to_the_end(&repeated(&tables.bytes, 2 * value.len + 1));
+            let text = repeated(&tables.bytes, 2 * value.len + 1);
+            trial.check_to_the_end(&text);
+            trial.check_lengths(&text);
             true
         }
     }
 }
 
 /// All searches must refuse so and leave the list as it is. So must those of a record, with the
-/// text for an archive: the pattern is tested first, and then the length.
+/// text for an archive: the pattern is tested first, and then the length. So must the call for prefix
+/// lengths, also with a list that is too short: that is tested last.
 pub fn assert_refused(pattern: &Pattern, text: &[u8], why: Refusal) {
     let answer = poqewan::find_first(pattern, text);
     assert_eq!(answer, Err(why), "the first position of {pattern:?}");
+    for list_len in [0, text.len().min(SHORT)] {
+        assert_lengths_refused(pattern, text, list_len, why);
+    }
     for method in Method::BOTH {
         let mut list = [UNWRITTEN; 8];
         let answer = method.run(pattern, text, u64::MAX, &mut list);

@@ -5,6 +5,7 @@
 #![allow(dead_code)] // Each test file uses a part of it.
 
 pub mod archive;
+pub mod lengths;
 
 use poqewan::{Ending, First, Pattern, Refusal, Report};
 
@@ -236,6 +237,16 @@ impl Tables {
         }
     }
 
+    /// How far KMP moves the window that it leaves with matched length i: rmin(0) after an
+    /// occurrence; else kmin(i) if i is a nohole, and i + 1 if not.
+    pub fn kmp_shift(&self, i: usize) -> usize {
+        if i == self.bytes.len() {
+            self.rmin[0]
+        } else {
+            self.kmin[i].unwrap_or(i + 1)
+        }
+    }
+
     /// What preparation is to give. All entries past those defined are 0.
     pub fn pattern(&self) -> Pattern {
         let mut pattern = ZERO;
@@ -390,6 +401,14 @@ pub fn search_by_rules(
     report(Ending::Done, c, &columns, listed)
 }
 
+/// A comparison of a pattern byte with a text byte: at a place of the pattern, in a window.
+#[derive(Clone, Copy, Debug, PartialEq, Eq)]
+pub struct Comparison {
+    pub window: usize,
+    pub place: usize,
+    pub equal: bool,
+}
+
 /// Document 01's search by Knuth, Morris and Pratt, as [`search_by_rules`].
 pub fn kmp_by_rules(
     tables: &Tables,
@@ -398,19 +417,45 @@ pub fn kmp_by_rules(
     list_len: usize,
     listed: &mut Listed,
 ) -> Report {
+    kmp_told(tables, text, cap, list_len, listed, |_| ())
+}
+
+/// Its comparisons, in order, where it is run to its end.
+pub fn kmp_comparisons(tables: &Tables, text: &[u8]) -> Vec<Comparison> {
+    let mut made = Vec::new();
+    let mut listed = Listed::default();
+    kmp_told(
+        tables,
+        text,
+        u64::MAX,
+        usize::MAX,
+        &mut listed,
+        |comparison| made.push(comparison),
+    );
+    made
+}
+
+/// The same search, where each comparison is told of.
+fn kmp_told(
+    tables: &Tables,
+    text: &[u8],
+    cap: u64,
+    list_len: usize,
+    listed: &mut Listed,
+    mut tell: impl FnMut(Comparison),
+) -> Report {
     listed.clear();
     let m = tables.bytes.len();
     // Window b, matched length i, count c.
     let (mut b, mut i, mut c) = (0, 0, 0);
     let mut columns = Columns::NONE;
     while b + m <= text.len() {
-        let shift = if i == m {
+        if i == m {
             // The pattern occurs at b.
             if listed.len() == list_len {
                 return report(Ending::Full(b), c, &columns, listed);
             }
             listed.push(b, c);
-            tables.rmin[0]
         } else {
             // A comparison is due.
             if c == cap {
@@ -418,13 +463,18 @@ pub fn kmp_by_rules(
             }
             c += 1;
             columns.compared(tables, i);
-            if equal(&tables.classes, tables.bytes[i], text[b + i]) {
+            let equal = equal(&tables.classes, tables.bytes[i], text[b + i]);
+            tell(Comparison {
+                window: b,
+                place: i,
+                equal,
+            });
+            if equal {
                 i += 1;
                 continue;
             }
-            // kmin(i) if i is a nohole, else i + 1.
-            tables.kmin[i].unwrap_or(i + 1)
-        };
+        }
+        let shift = tables.kmp_shift(i);
         b += shift;
         i = i.saturating_sub(shift);
     }
