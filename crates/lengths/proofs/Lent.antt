@@ -1,13 +1,13 @@
 -- The letters and the table that a scan is lent. Assumes nothing.
-use Prim.Native.Nat.{ℕ, suc, _≤_, _<_}
-use mathlib.Core.Path.{_≡_, sym, _∙_}
+use Prim.Native.Nat.{ℕ, _≤_, _<_}
+use mathlib.Core.Path.{_≡_}
 use mathlib.Core.List.{List}
 use native.Mathlib.Omega.{arith}
 use lib.ListN.{length, take}
 use lib.Seq.{length-take-le}
 use Rattle.classes.specs.Classes.{classCount, through, lettersIn}
 use Rattle.classes.proofs.Letters.{letters-read}
-use Rattle.hmax.specs.Table.{entryBound, tableAfter}
+use Rattle.hmax.specs.Table.{tableAfter}
 use Rattle.hmax.specs.Internal.Steps.{Room}
 use Rattle.hmax.proofs.Tables.{after-known, after-kept}
 use Rattle.intake.specs.Sizes.{longestPattern}

@@ -1,6 +1,6 @@
 -- What `prefix_lengths` answers in each case, and its promises as laws of its answer. Assumes nothing.
 use Prim.Native.Nat.{ℕ, _+_, _≤_, _<_}
-use mathlib.Core.Path.{_≡_, refl, sym, ap, _∙_, subst}
+use mathlib.Core.Path.{_≡_, refl, sym, _∙_, subst}
 use mathlib.Core.Logic.{_↔_, ⊎-elim}
 use mathlib.Core.List.{List}
 use native.Mathlib.Omega.{arith}
@@ -16,7 +16,7 @@ use Rattle.classes.specs.Classes.{through, identity, OccursBy}
 use Rattle.classes.proofs.Through.{length-through, through-at}
 use Rattle.pattern.specs.Letters.{ownBytes, wordOf, textOf}
 use Rattle.pattern.specs.declared.Pattern.{Pattern}
-use Rattle.pattern.proofs.Letters.{length-word, length-text, word-through, text-through, word-plain, text-plain}
+use Rattle.pattern.proofs.Letters.{length-text, word-through, text-through, word-plain, text-plain}
 use Rattle.refusal.specs.declared.Refusal.{Refusal}
 use Rattle.refusal.specs.declared.Refusal.the-variants.{ShortLengths}
 use Rattle.rules.specs.Occurs.{Occurs, occurrences}

@@ -1,11 +1,11 @@
 -- A scan at a window: how it stands, and how it goes on to the next. Assumes nothing.
-use Prim.Native.Nat.{ℕ, zero, suc, _+_, _-_, _*_, _≤_, _<_, min}
-use mathlib.Core.Path.{_≡_, refl, sym, ap, _∙_}
+use Prim.Native.Nat.{ℕ, suc, _+_, _-_, _≤_, _<_, min}
+use mathlib.Core.Path.{_≡_, sym, ap, _∙_}
 use mathlib.Core.Logic.{⊎-elim, inl, inr}
 use mathlib.Core.List.{List}
 use native.Mathlib.Omega.{arith}
 use lib.ListN.{length, getD}
-use Rattle.words.specs.Tables.{letter, hmax}
+use Rattle.words.specs.Tables.{letter}
 use Rattle.words.proofs.Cases.{less-or}
 use Rattle.rules.proofs.KmpMethod.{kmp-shift-moves}
 use Rattle.prefixes.specs.Longest.{longest, lengthsIn}

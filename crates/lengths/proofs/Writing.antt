@@ -1,10 +1,10 @@
 -- The entries as they are written. Assumes nothing.
 use Prim.Native.Nat.{ℕ, _+_, _-_, _≤_, _<_}
-use mathlib.Core.Path.{_≡_, refl, sym, ap, _∙_}
+use mathlib.Core.Path.{_≡_, refl, sym, _∙_}
 use mathlib.Core.Logic.{⊎-elim}
 use mathlib.Core.List.{List}
 use native.Mathlib.Omega.{arith}
-use lib.ListN.{length, getD, set, drop}
+use lib.ListN.{length, set}
 use lib.Seq.{getD-set-other}
 use Rattle.words.proofs.Cases.{less-or}
 use Rattle.hmax.proofs.Stores.{KeptFrom, kept-later, kept-store, after-store}

@@ -1,25 +1,24 @@
 -- Until the first window past n - m the comparisons are those of a search by KMP, one for one. Assumes nothing.
-use Prim.Native.Nat.{ℕ, suc, _+_, _-_, _≤_, _<_}
-use mathlib.Core.Path.{_≡_, refl, sym, ap, _∙_}
-use mathlib.Core.Logic.{⊎-elim, inl, inr}
+use Prim.Native.Nat.{ℕ, _+_, _-_, _≤_, _<_}
+use mathlib.Core.Path.{_≡_, refl, sym, _∙_}
+use mathlib.Core.Logic.{⊎-elim}
 use mathlib.Core.List.{List, [], _∷_}
 use native.Mathlib.Omega.{arith}
 use lib.ListN.{length}
 use borrow.Author.Tests.{eqb-true, eqb-false}
 use Rattle.words.proofs.Cases.{less-or}
-use Rattle.rules.specs.Rules.{Compared, State, Turn, go, leave, listed, compared, matched, missed, text-source, turn}
+use Rattle.rules.specs.Rules.{Compared, State, Turn, leave, listed, compared, matched, missed, text-source, turn}
 use Rattle.rules.specs.Kmp.{kmp-shift, kmp-plan, kmp}
-use Rattle.rules.specs.Internal.Passing.{Established}
 use Rattle.rules.specs.declared.Ending.{Ending}
 use Rattle.rules.specs.declared.Ending.the-variants.{Done, Spent, Full}
 use Rattle.rules.proofs.Turns.{Keeps}
 use Rattle.rules.proofs.Rules as rules
 use Rattle.rules.proofs.KmpMethod.{kmp-shift-moves, edge-stays}
-use Rattle.prefixes.specs.CarriedOn.{turn-on, rest-on, carried-on}
-use Rattle.prefixes.specs.Promise.{Every, BeginsWith, AsKmp}
+use Rattle.prefixes.specs.CarriedOn.{rest-on, carried-on}
+use Rattle.prefixes.specs.Promise.{Every, AsKmp}
 use Rattle.prefixes.specs.Internal.{in-window}
-use Rattle.prefixes.proofs.Turns.{matched-turn, missed-turn, whole-turn, on-goes, on-adds}
-use Rattle.prefixes.proofs.Standing.{ends-with}
+use Rattle.prefixes.proofs.Turns.{matched-turn, missed-turn, whole-turn, on-adds}
+use Rattle.prefixes.proofs.Standing.{ends-with, onto}
 
 every-weaker : {P Q : Compared → Type 0} → ((one : Compared) → P one → Q one) → (made : List Compared) → Every P made → Every Q made
 every-weaker f [] E = tt
@@ -36,9 +35,6 @@ module _ (w t : List ℕ) (some : 1 ≤ length w) where
     pub all : All (s .window) (s .rank) (s .made)
     pub up-to : Every (λ one. one .window + length w ≤ length t) (s .made)
 
-  onto : (b i b' i' : ℕ) (made made' : List Compared) → turn-on w t (in-window b i made) ≡ go (in-window b' i' made') → All b i made → All b' i' made'
-  onto b i b' i' made made' e all = ap (λ e. e .last .made) (sym (on-goes w t some _ _ e)) ∙ all
-
   -- An occurrence is left by both. At the text's end the run is over before that and after it.
   after-whole : (b i : ℕ) (made : List Compared) → i ≡ length w → b + length w ≤ length t → All b i made
       → All (b + kmp-shift w (length w)) (length w - kmp-shift w (length w)) made
@@ -46,7 +42,7 @@ module _ (w t : List ℕ) (some : 1 ≤ length w) where
   after-whole b i made z fits all =
       let M = kmp-shift-moves w (length w) some (omega arith) in
       ⊎-elim
-      (λ (more : b + length w < length t). onto b (length w) _ _ made made
+      (λ (more : b + length w < length t). onto w t some b (length w) made _
       (whole-turn w t (in-window b (length w) made) more (omega arith) ∙ rw (edge-stays w (length w) b 0 (omega arith)) refl) (rw z at all))
       (λ (over : length t ≤ b + length w).
       ends-with w t some _ _ made (omega (arith, M .upto)) ∙ sym (ends-with w t some b i made (omega arith)) ∙ all)
@@ -77,14 +73,14 @@ module _ (w t : List ℕ) (some : 1 ≤ length w) where
         at _ (rules.matches fits d e q) = record {
           upto = d .rank;
           edge = B .edge;
-          all = onto (s .window) (s .rank) _ _ (s .made) _
+          all = onto w t some (s .window) (s .rank) (s .made) _
               (matched-turn w t (in-window (s .window) (s .rank) (s .made)) (omega (arith, d .rank)) (d .rank) (eqb-true _ _ q)) (B .all);
           up-to = (fits, B .up-to);
         }
         at _ (rules.misses fits d e q) = record {
           upto = omega (arith, B .upto);
           edge = edge-stays w (s .rank) (s .window) (s .edge) (B .upto) ∙ B .edge;
-          all = onto (s .window) (s .rank) _ _ (s .made) _
+          all = onto w t some (s .window) (s .rank) (s .made) _
               (missed-turn w t (in-window (s .window) (s .rank) (s .made)) (omega (arith, d .rank)) (d .rank) (eqb-false _ _ q)
               ∙ rw (edge-stays w (s .rank) (s .window) 0 (B .upto)) refl) (B .all);
           up-to = (fits, B .up-to);

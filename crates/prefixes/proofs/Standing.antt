@@ -88,7 +88,7 @@ module _ (w t : List ℕ) (some : 1 ≤ length w) where
   stands-over {b} {i} S l = sym (S .count) ∙ ap length (sym (ends-with b i (S .made) l) ∙ S .all)
 
   -- A turn leads on to another state.
-  onto : (b i : ℕ) (made : List Compared) (r : State) → turn-on w t (in-window b i made) ≡ go r
+  pub onto : (b i : ℕ) (made : List Compared) (r : State) → turn-on w t (in-window b i made) ≡ go r
       → rest-on w t (in-window b i made) .last .made ≡ carried-on w t .last .made → rest-on w t r .last .made ≡ carried-on w t .last .made
   onto b i made r e all = ap (λ e. e .last .made) (sym (on-goes w t some (in-window b i made) r e)) ∙ all
 

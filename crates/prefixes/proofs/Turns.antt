@@ -1,6 +1,6 @@
 -- KMP carried on to the text's end: which rule applies at a turn, what a turn does to the whole, and what a run adds. Assumes nothing.
-use Prim.Native.Nat.{ℕ, suc, _+_, _-_, _*_, _≤_, _<_}
-use mathlib.Core.Path.{_≡_, refl, sym, ap, _∙_}
+use Prim.Native.Nat.{ℕ, _+_, _-_, _≤_, _<_}
+use mathlib.Core.Path.{_≡_, refl, sym, _∙_}
 use mathlib.Core.Logic.{⊎-elim}
 use mathlib.Core.Bool.{Bool, true, false}
 use mathlib.Core.List.{List, [], _∷_, _++_}
@@ -11,7 +11,7 @@ use borrow.Author.Tests.{lt-ltb, le-ltb, eqb-true, eqb-false, eq-eqb, ne-eqb}
 use Rattle.words.specs.Tables.{letter, rmin}
 use Rattle.words.proofs.Cases.{less-or, true-or-false}
 use Rattle.words.proofs.Noholes.{rmin-is}
-use Rattle.rules.specs.Rules.{Compared, State, start, Turn, stop, go, leave, agree, compared, matched, missed, text-source, turns}
+use Rattle.rules.specs.Rules.{Compared, State, start, Turn, stop, go, leave, agree, compared, matched, missed}
 use Rattle.rules.specs.Kmp.{kmp-shift, kmp-plan}
 use Rattle.rules.specs.Internal.Passing.{one}
 use Rattle.rules.specs.declared.Ending.{Ending}

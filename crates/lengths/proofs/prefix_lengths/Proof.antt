@@ -8,7 +8,7 @@ use denote.Ref.{now}
 use Rattle.admission.specs.Admitted.{admitted}
 use Rattle.admission.specs.declared.Admission.the-variants.{Admitted}
 use Rattle.admission.proofs.Admitting.{at-the-door, admitted-is}
-use Rattle.checked.proofs.Reading.{Fields, fields-of}
+use Rattle.checked.proofs.Reading.{fields-of}
 use Rattle.lengths.proofs.Promises.{promises, refused, too-short, counted}
 use Rattle.lengths.proofs.prefix_lengths.Statement.{statement}
 use Rattle.lengths.proofs.prefix_lengths.Tie as tie

@@ -1,6 +1,6 @@
 -- `lengths::scan::rest` meets its contract. The loop's invariant: however the scan came to stand where it begins, it stands at window b and the
 -- matched length i, with so many more counted. The measure is what is left of the text. Assumes nothing.
-use Prim.Native.Nat.{ℕ, _+_, _-_, _≤_, _<_, min}
+use Prim.Native.Nat.{ℕ, _+_, _-_, _≤_, _<_}
 use mathlib.Core.Path.{_≡_, refl, _∙_}
 use mathlib.Core.List.{List}
 use native.Mathlib.Omega.{arith}

@@ -1,5 +1,4 @@
 -- `lengths::scan::scan` meets its contract: the one part leads to where the other begins, and all are counted. Assumes nothing.
-use mathlib.Core.Path.{_∙_}
 use native.Mathlib.Omega.{arith}
 use borrow.Author.Needs.{needs}
 use Rattle.classes.proofs.Through.{length-through}

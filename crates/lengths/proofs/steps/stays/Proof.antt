@@ -1,5 +1,4 @@
 -- `lengths::steps::stays` meets its contract, case by case. Assumes nothing.
-use mathlib.Core.Path.{refl}
 use native.Mathlib.Omega.{arith}
 use Rattle.lengths.proofs.steps.stays.Statement.{statement}
 use Rattle.lengths.proofs.steps.stays.Tie as tie
