@@ -124,6 +124,30 @@ bool lengths_agree(const struct version *a, const struct version *b, const struc
         && give_lengths(a->prefix_lengths, b->prefix_lengths, subject, lists) && tell_occurrences(lists.lengths, a, subject, lists.one);
 }
 
+bool orders_agree(const struct version *a, const struct version *b, const struct subject *subject, struct lists lists)
+{
+    if (a->ordered == NULL || b->ordered == NULL)
+        return true;
+    return searches_agree(a->ordered, b->ordered, a->has_columns && b->has_columns, subject, lists)
+        && list_alike(a->ordered, b->colussi, subject, lists);
+}
+
+/* Of two builds, which make their own shifts. In a longer text, windows that are compared afresh take too long. */
+#define LONGEST_FOR_ORDERS 65536
+
+static bool builds_agree_in_order(const struct version *a, const struct version *b, const struct subject *subject,
+                                  struct lists lists)
+{
+    struct order descending;
+    struct subject asked = *subject;
+    if (subject->n == 0 || subject->n > LONGEST_FOR_ORDERS)
+        return true;
+    for (size_t i = 0; i < subject->m; i++)
+        descending.places[i] = (uint8_t)(subject->m - 1 - i);
+    asked.order = &descending;
+    return orders_agree(a, b, &asked, lists);
+}
+
 static bool same_tables(const struct tables *a, const struct tables *b)
 {
     return a->len == b->len && a->noholes == b->noholes && memcmp(a->bytes, b->bytes, sizeof a->bytes) == 0
@@ -154,5 +178,7 @@ bool versions_agree(const struct version *a, const struct version *b, const stru
         && searches_agree(a->kmp, b->kmp, columns, subject, lists)
         && finds_first(a, OURS, subject, lists.one) && finds_first(b, OTHER, subject, lists.other)
         && searches_record(a, b, columns, subject, lists) && lengths_agree(a, b, subject, lists)
-        && (b->prepare == NULL || (prepare_alike(a, b, subject) && a->charge(subject->n) == b->charge(subject->n)));
+        && (b->prepare == NULL
+            || (prepare_alike(a, b, subject) && a->charge(subject->n) == b->charge(subject->n)
+                && builds_agree_in_order(a, b, subject, lists)));
 }

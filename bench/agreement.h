@@ -15,12 +15,16 @@ struct lists {
    do that like ours, and give the same charge. A version that looks for the first occurrence must find the one at which its own
    search in Colussi's order is full with an empty list, with the same count, and with which a whole list begins. If the text is a
    record of an archive, our version must search it there like the other searches the text; one that is not there it must not
-   search. And they must agree in the prefix lengths. */
+   search. And they must agree in the prefix lengths; and builds, in texts up to some length, in the places' descending order. */
 bool versions_agree(const struct version *a, const struct version *b, const struct subject *subject, struct lists lists);
 
 /* Whether they give the same prefix lengths and the same count, with m exactly where our version lists the pattern; or one of them
    gives none. */
 bool lengths_agree(const struct version *a, const struct version *b, const struct subject *subject, struct lists lists);
+
+/* Whether they answer alike in the order of the subject, as above, and list what our search in Colussi's order does; or one of them
+   has no custom orders. */
+bool orders_agree(const struct version *a, const struct version *b, const struct subject *subject, struct lists lists);
 
 /* Whether two searches of the whole text list the same: one of ours; and one of the other side, or that needs nothing prepared. */
 bool list_alike(search_function *a, search_function *b, const struct subject *subject, struct lists lists);

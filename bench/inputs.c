@@ -87,6 +87,90 @@ void period_3(uint8_t *bytes, size_t m)
     repeat((const uint8_t *)"aab", 3, bytes, m);
 }
 
+void halves(uint8_t *bytes, size_t m)
+{
+    memset(bytes, 'a', m / 2);
+    memset(bytes + m / 2, 'b', m - m / 2);
+}
+
+static void first_differs(uint8_t *bytes, size_t m)
+{
+    one_differs(bytes, m, 0);
+}
+
+static void period_2(uint8_t *bytes, size_t m)
+{
+    repeat((const uint8_t *)"ab", 2, bytes, m);
+}
+
+/* A random word of that length over 4 letters, repeated. */
+static void repeat_random(uint8_t *bytes, size_t m, size_t len)
+{
+    uint8_t word[POQEWAN_LONGEST_PATTERN];
+    random_letters(word, len, 4, 'a');
+    repeat(word, len, bytes, m);
+}
+
+static void period_16(uint8_t *bytes, size_t m)
+{
+    repeat_random(bytes, m, 16);
+}
+
+static void period_85(uint8_t *bytes, size_t m)
+{
+    repeat_random(bytes, m, 85);
+}
+
+static void random_3(uint8_t *bytes, size_t m)
+{
+    random_letters(bytes, m, 3, 'a');
+}
+
+/* 1, 2, up to 255, and from 1 again. */
+static void all_values(uint8_t *bytes, size_t m)
+{
+    for (size_t p = 0; p < m; p++)
+        bytes[p] = (uint8_t)(1 + p % 255);
+}
+
+void ascending_order(const uint8_t *own, size_t m, uint8_t *places)
+{
+    (void)own;
+    for (size_t i = 0; i < m; i++)
+        places[i] = (uint8_t)i;
+}
+
+void descending_order(const uint8_t *own, size_t m, uint8_t *places)
+{
+    (void)own;
+    for (size_t i = 0; i < m; i++)
+        places[i] = (uint8_t)(m - 1 - i);
+}
+
+void own_order(const uint8_t *own, size_t m, uint8_t *places)
+{
+    memcpy(places, own, m);
+}
+
+void interleaved_order(const uint8_t *own, size_t m, uint8_t *places)
+{
+    (void)own;
+    const size_t even = (m + 1) / 2;
+    for (size_t i = 0; i < m; i++)
+        places[i] = (uint8_t)(i < even ? 2 * i : 2 * (i - even) + 1);
+}
+
+void random_order(const uint8_t *own, size_t m, uint8_t *places)
+{
+    ascending_order(own, m, places);
+    for (size_t i = m - 1; i > 0; i--) {
+        const size_t other = below(i + 1);
+        const uint8_t place = places[i];
+        places[i] = places[other];
+        places[other] = place;
+    }
+}
+
 /* Each Fibonacci word is the last followed by the one before: after the first two letters, what is written so far is copied
    from its own start, one shorter word at a time. */
 static void fibonacci_word(uint8_t *to, size_t n)
@@ -146,6 +230,12 @@ void equal_text(const uint8_t *bytes, size_t m, uint8_t *text, size_t n)
 {
     (void)bytes, (void)m;
     memset(text, 'a', n);
+}
+
+void period_3_text(const uint8_t *bytes, size_t m, uint8_t *text, size_t n)
+{
+    (void)bytes, (void)m;
+    period_3(text, n);
 }
 
 void fibonacci_text(const uint8_t *bytes, size_t m, uint8_t *text, size_t n)
@@ -264,6 +354,14 @@ const struct family families[7] = {
 
 const size_t lengths_of_patterns[5] = {1, 8, 16, 64, 256};
 
+const struct family ordered_families[15] = {
+    {"one letter", one_letter},      {"a^(m-1)b", last_differs},          {"ba^(m-1)", first_differs},
+    {"a^kb^k", halves},              {"a^kba^(k+1)", middle_differs},     {"(ab)^k", period_2},
+    {"period 3", period_3},          {"period 16", period_16},            {"period 85", period_85},
+    {"Fibonacci word", fibonacci},   {"random, 2 letters", random_2},     {"random, 3 letters", random_3},
+    {"random, 4 letters", random_4}, {"random, 255 letters", random_255}, {"all values", all_values},
+};
+
 void make_input(const struct kind *kind, uint8_t classes[POQEWAN_CLASSES], uint8_t *bytes, size_t m, uint8_t *text, size_t n,
                 uint64_t number)
 {
@@ -290,4 +388,10 @@ void make_in_turn(const struct family *family, uint8_t bytes[IN_TURN][POQEWAN_LO
     seed(m);
     for (size_t i = 0; i < IN_TURN; i++)
         family->make(bytes[i], m);
+}
+
+void make_pattern(const struct family *family, uint8_t *bytes, size_t m, uint64_t number)
+{
+    seed(number);
+    family->make(bytes, m);
 }

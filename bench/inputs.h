@@ -14,8 +14,17 @@ pattern_maker last_differs;   /* a^(m-1) b */
 pattern_maker second_differs; /* a b a^(m-2) */
 pattern_maker middle_differs; /* a^k b a^k, or a^k b a^(k+1) if m is even */
 pattern_maker period_3;       /* aab, repeated */
+pattern_maker halves;         /* a^k b^k, or a^k b^(k+1) if m is odd */
 pattern_maker fibonacci;      /* the start of abaababaabaab... */
 pattern_maker flutter;        /* a cycle of four reflections, repeated */
+
+/* Orders of comparison: each writes the m places, by rank, for a pattern with that order of its own. */
+typedef void order_maker(const uint8_t *own, size_t m, uint8_t *places);
+order_maker ascending_order;
+order_maker descending_order;
+order_maker own_order;
+order_maker interleaved_order; /* the places of even number, then the others */
+order_maker random_order;
 
 /* Texts for a pattern: each writes n bytes. */
 typedef void text_maker(const uint8_t *bytes, size_t m, uint8_t *text, size_t n);
@@ -23,6 +32,7 @@ text_maker text_of_256; /* random letters out of 256, with a copy of the pattern
 text_maker text_of_4;
 text_maker text_of_2;
 text_maker equal_text;     /* a^n */
+text_maker period_3_text;  /* aab, repeated */
 text_maker fibonacci_text; /* the same word, longer */
 text_maker pieces_text;    /* random pieces of the pattern */
 text_maker repeated_text;  /* the pattern again and again */
@@ -59,6 +69,8 @@ extern const size_t lengths[4];
 extern const struct family families[7];
 extern const size_t lengths_of_patterns[5];
 
+extern const struct family ordered_families[15]; /* those that custom orders are measured with, at the greatest length */
+
 #define COUNT_OF(array) (sizeof(array) / sizeof *(array))
 
 /* Writes the classes, a pattern of a kind and its text, by the generator started afresh with that number. */
@@ -73,5 +85,8 @@ void break_occurrences(uint8_t *text, const uint32_t *positions, size_t count, s
    predictor would learn. */
 #define IN_TURN 256
 void make_in_turn(const struct family *family, uint8_t bytes[IN_TURN][POQEWAN_LONGEST_PATTERN], size_t m);
+
+/* Writes one pattern of a family, by the generator started afresh with that number. */
+void make_pattern(const struct family *family, uint8_t *bytes, size_t m, uint64_t number);
 
 #endif

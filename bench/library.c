@@ -1,8 +1,8 @@
 /* The library's functions in the form in which they are measured. It is compiled with the header of each build: those from before
    C-19 know no classes, those from before C-16 report no columns, those from before C-12 have no search for the first
-   occurrence, those from before C-11 have no archives, and those from before C-14 have no prefix lengths. C can't ask whether a
-   struct has a field, or whether there is a function, so `run` looks into the header and sets HAS_COLUMNS, HAS_FIRST, HAS_ARCHIVES
-   and HAS_LENGTHS to 1 or 0. */
+   occurrence, those from before C-11 have no archives, those from before C-14 have no prefix lengths, and those from before C-20
+   have no custom orders. C can't ask whether a struct has a field, or whether there is a function, so `run` looks into the header
+   and sets HAS_COLUMNS, HAS_FIRST, HAS_ARCHIVES, HAS_LENGTHS and HAS_ORDERED to 1 or 0. */
 #include "subject.h"
 
 #include <poqewan.h>
@@ -66,6 +66,18 @@ static struct prefix_lengths prefix_lengths(const void *prepared, const struct s
 }
 #else
 #define prefix_lengths NULL
+#endif
+
+#if HAS_ORDERED
+static void ordered(const void *prepared, const struct subject *subject, uint64_t cap, uint32_t *positions, size_t room,
+                    struct report *report)
+{
+    const poqewan_report answer = poqewan_ordered(*(const poqewan_pattern *)prepared, subject->order->places, subject->m,
+                                                  subject->text, subject->n, cap, positions, room);
+    give(report, plain(&answer));
+}
+#else
+#define ordered NULL
 #endif
 
 #if HAS_ARCHIVES
@@ -134,6 +146,8 @@ const struct version version = {colussi,
                                 kmp,
                                 first,
                                 prefix_lengths,
+                                NULL,
+                                ordered,
                                 NULL,
                                 colussi_record,
                                 kmp_record,

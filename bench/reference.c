@@ -1,6 +1,7 @@
 /* Colussi's order and Knuth, Morris and Pratt in plain C, by the library's rules and with its report; and the prefix lengths with
-   their count. The pattern is not checked. One loop for each, as the rules are written, and nothing more clever: the optimizer is
-   left to do the rest. The prefix lengths are there a second time, tuned by hand. */
+   their count; and custom orders, with shifts that were made before. Neither the pattern nor an order is checked. One loop for each,
+   as the rules are written, and nothing more clever: the optimizer is left to do the rest. The prefix lengths are there a second
+   time, tuned by hand. */
 #include "subject.h"
 
 #include <poqewan.h>
@@ -134,6 +135,63 @@ static struct report search_kmp(const struct tables *pattern, const uint8_t *tex
         size_t s = shifts[i];
         b += s;
         i = i > s ? i - s : 0;
+    }
+    return report_of(POQEWAN_DONE, 0, c, at_noholes, written);
+}
+
+/* Whether a window that differs at that rank, or at rank m occurs, can't be followed by one so far on: a place that agreed would meet
+   another letter, or the one that differed would meet the same. */
+static bool ruled_out(const uint8_t *letters, const uint8_t *places, size_t m, size_t rank, size_t distance)
+{
+    if (rank < m && distance <= places[rank] && letters[places[rank]] == letters[places[rank] - distance])
+        return true;
+    for (size_t i = 0; i < rank; i++)
+        if (distance <= places[i] && letters[places[i]] != letters[places[i] - distance])
+            return true;
+    return false;
+}
+
+/* The least distance at each rank, by trying one after the other. */
+static void shifts_by_rank(const struct tables *pattern, const uint8_t *places, uint16_t shifts[LONGEST_PATTERN + 1])
+{
+    uint8_t letters[LONGEST_PATTERN];
+    letters_by_place(pattern, letters);
+    for (size_t rank = 0; rank <= pattern->len; rank++) {
+        size_t distance = 1;
+        while (ruled_out(letters, places, pattern->len, rank, distance))
+            distance++;
+        shifts[rank] = (uint16_t)distance;
+    }
+}
+
+static struct report search_ordered(const struct tables *pattern, const struct order *order, const uint8_t *text, size_t n,
+                                    uint64_t cap, uint32_t *positions, size_t room)
+{
+    const size_t m = pattern->len;
+    size_t b = 0, i = 0, written = 0;
+    uint64_t c = 0, at_noholes = 0;
+    uint8_t letters[LONGEST_PATTERN], noholes[LONGEST_PATTERN];
+    letters_by_place(pattern, letters);
+    noholes_by_place(pattern, noholes);
+
+    while (b + m <= n) {
+        if (i == m) {
+            if (written == room)
+                return report_of(POQEWAN_FULL, b, c, at_noholes, written);
+            positions[written++] = (uint32_t)b;
+        } else {
+            if (c == cap)
+                return report_of(POQEWAN_SPENT, b, c, at_noholes, written);
+            c++;
+            size_t place = order->places[i];
+            at_noholes += noholes[place];
+            if (letters[place] == pattern->classes[text[b + place]]) {
+                i++;
+                continue;
+            }
+        }
+        b += order->shifts[i];
+        i = 0;
     }
     return report_of(POQEWAN_DONE, 0, c, at_noholes, written);
 }
@@ -275,11 +333,24 @@ static struct prefix_lengths tuned_lengths(const void *prepared, const struct su
     return lengths_by_bytes(prepared, subject->text, subject->n, lengths);
 }
 
+static void ordered(const void *prepared, const struct subject *subject, uint64_t cap, uint32_t *positions, size_t room,
+                    struct report *report)
+{
+    give(report, search_ordered(prepared, subject->order, subject->text, subject->n, cap, positions, room));
+}
+
+static void fill_shifts(const void *prepared, struct order *order)
+{
+    shifts_by_rank(prepared, order->places, order->shifts);
+}
+
 const struct version version = {.colussi = colussi,
                                 .kmp = kmp,
                                 .first = first,
                                 .prefix_lengths = prefix_lengths,
                                 .tuned_lengths = tuned_lengths,
+                                .ordered = ordered,
+                                .fill_shifts = fill_shifts,
                                 .size = sizeof(struct tables),
                                 .has_classes = true,
                                 .has_columns = true};

@@ -14,6 +14,7 @@ const struct version *const versions[SIDES][COPIES] = {COPIES_OF(ours), COPIES_O
 struct subject subjects[IN_TURN];
 size_t subjects_made;
 struct lists lists;
+struct order orders[ORDERS];
 static uint8_t *stores[SIDES]; /* with a prepared pattern for each subject */
 
 void *touched(size_t bytes)
@@ -67,6 +68,22 @@ static void prepare(const struct subject *subject, enum side side)
     }
 }
 
+/* In the generator's turn after the text. */
+static void make_orders(const struct input *input)
+{
+    static order_maker *const makers[ORDERS] = {
+        [ASCENDING] = ascending_order,     [DESCENDING] = descending_order, [OF_COLUSSI] = own_order, [DRAWN] = random_order,
+        [INTERLEAVED] = interleaved_order, [DRAWN_2] = random_order,        [DRAWN_3] = random_order,
+    };
+    struct tables tables;
+    versions[OURS][0]->copy_tables(subjects[0].prepared[OURS], &tables);
+    for (size_t o = 0; o < input->orders; o++) {
+        makers[o](tables.order, input->m, orders[o].places);
+        if (input->kind != NULL)
+            versions[OTHER][0]->fill_shifts(subjects[0].prepared[OTHER], &orders[o]);
+    }
+}
+
 void make(const struct input *input)
 {
     static uint8_t *text, bytes[IN_TURN][POQEWAN_LONGEST_PATTERN], classes[POQEWAN_CLASSES];
@@ -79,18 +96,21 @@ void make(const struct input *input)
         for (enum side side = 0; side < SIDES; side++)
             stores[side] = touched(IN_TURN * versions[side][0]->size);
     }
-    subjects_made = input->kind != NULL ? 1 : IN_TURN;
+    subjects_made = input->kind != NULL || input->orders > 0 ? 1 : IN_TURN;
     if (input->kind != NULL) {
         const size_t n = input->archive != NULL ? 0 : input->size->n; /* an archive is there already */
         make_input(input->kind, classes, bytes[0], input->m, text, n, input->number);
     } else {
         identity(classes);
-        make_in_turn(input->family, bytes, input->m);
+        if (input->orders > 0)
+            make_pattern(input->family, bytes[0], input->m, input->number);
+        else
+            make_in_turn(input->family, bytes, input->m);
     }
     for (size_t i = 0; i < subjects_made; i++) {
         const uint8_t *in = input->archive != NULL ? record_of(input) : input->kind != NULL ? text : bytes[i];
-        subjects[i] =
-            (struct subject){bytes[i], input->m, classes, in, length_of_text(input), {NULL}, input->archive, input->record};
+        subjects[i] = (struct subject){
+            bytes[i], input->m, classes, in, length_of_text(input), {NULL}, input->archive, input->record, NULL};
         for (enum side side = 0; side < SIDES; side++) {
             subjects[i].prepared[side] = stores[side] + i * versions[side][0]->size;
             prepare(&subjects[i], side);
@@ -98,6 +118,8 @@ void make(const struct input *input)
     }
     if (without_occurrence(input)) /* by KMP, which is not measured on it: the branch predictor knows what has just run */
         break_occurrences(text, lists.one, report_by(versions[OURS][0]->kmp).written, input->m);
+    if (input->orders > 0)
+        make_orders(input);
 }
 
 uint64_t count_by(search_function *search)
@@ -147,6 +169,7 @@ struct row rows[ROWS];
 struct row *const longest_texts = rows + TEXTS - COUNT_OF(kinds), *const first_rows = rows + TEXTS + PATTERNS;
 struct row *const archive_rows = rows + TEXTS + PATTERNS + FIRSTS;
 struct row *const length_rows = rows + TEXTS + PATTERNS + FIRSTS + IN_ARCHIVES;
+struct row *const ordered_rows = rows + TEXTS + PATTERNS + FIRSTS + IN_ARCHIVES + FOR_LENGTHS;
 
 void add_trial(struct row *row, const struct work *work, int variants, struct share share)
 {
@@ -212,6 +235,17 @@ bool sides_agree(const struct subject *subject)
     return versions_agree(versions[OURS][0], versions[OTHER][0], subject, lists);
 }
 
+static bool agree_in_orders(size_t count)
+{
+    struct subject subject = subjects[0];
+    for (size_t o = 0; o < count; o++) {
+        subject.order = &orders[o];
+        if (!orders_agree(versions[OURS][0], versions[OTHER][0], &subject, lists))
+            return false;
+    }
+    return true;
+}
+
 static bool agree_on_row(const struct row *row, bool (*agree)(const struct subject *subject))
 {
     make(&row->input);
@@ -219,6 +253,8 @@ static bool agree_on_row(const struct row *row, bool (*agree)(const struct subje
         return false;
     if (row->input.lengths)
         return lengths_agree(versions[OURS][0], versions[OTHER][0], &subjects[0], lists);
+    if (row->input.orders > 0)
+        return agree_in_orders(row->input.orders);
     for (size_t i = 0; i < subjects_made; i++)
         if (!agree(&subjects[i]))
             return false;
@@ -235,6 +271,7 @@ bool agree_on_rows(bool (*agree)(const struct subject *subject))
                    row->input.first             ? ", for the first occurrence"
                    : row->input.archive != NULL ? ", in an archive"
                    : row->input.lengths         ? ", for prefix lengths"
+                   : row->input.orders > 0      ? ", in custom orders"
                                                 : "");
             agreed = false;
         }

@@ -10,15 +10,16 @@ extern const struct version *const versions[SIDES][COPIES];
 
 /* What is searched: a pattern in a text; or many patterns in turn, and no text. For the first occurrence: a pattern in a text
    without any; or many patterns in turn, each in a text that is the pattern itself. For archives: a pattern in a record. For prefix
-   lengths: a pattern in a text. */
+   lengths: a pattern in a text. For custom orders: a pattern in a text, or one pattern and no text. */
 struct input {
     const struct kind *kind; /* with the size of the text; or none, and then */
     const struct size *size;
     const struct family *family;
     size_t m;
-    uint64_t number; /* that the generator starts with, if there is a kind */
+    uint64_t number; /* that the generator starts with, if there is a kind, or custom orders */
     bool first;      /* whether it is for the first occurrence */
     bool lengths;    /* whether it is for prefix lengths */
+    size_t orders;   /* how many of the custom orders it is for, or 0 */
     const struct archive *archive; /* or NULL; its records have texts of the kind, and all have that size */
     uint64_t record;               /* if it is not there, the size is 0 */
 };
@@ -33,11 +34,16 @@ extern struct subject subjects[IN_TURN];
 extern size_t subjects_made;
 extern struct lists lists;
 
+/* The custom orders of the first subject, if the input is for them, with the shifts by the C if there is a text. Texts have the
+   first four. */
+enum { ASCENDING, DESCENDING, OF_COLUSSI, DRAWN, ORDERS_OF_TEXTS, INTERLEAVED = ORDERS_OF_TEXTS, DRAWN_2, DRAWN_3, ORDERS };
+extern struct order orders[ORDERS];
+
 /* What a search of ours counts in the text of the first subject. */
 uint64_t count_by(search_function *search);
 
 /* The trials of every text and of all patterns. What a program adds comes after. */
-enum { COLUSSI, KMP, ADDED, MOST_TRIALS = ADDED + 2 };
+enum { COLUSSI, KMP, ADDED, MOST_TRIALS = ORDERS };
 enum { PREPARATION, CHECK };
 
 struct row {
@@ -46,8 +52,8 @@ struct row {
     struct trial trial[MOST_TRIALS];
 };
 
-/* The rows: short texts; longer ones, each with one length of pattern; patterns; and those for the first occurrence, for archives
-   and for prefix lengths, which are left out unless a program sets them. */
+/* The rows: short texts; longer ones, each with one length of pattern; patterns; and those for the first occurrence, for archives,
+   for prefix lengths and for custom orders, which are left out unless a program sets them. */
 #define LENGTH_IN_LONG_TEXTS 16
 #define SHORT_TEXTS (COUNT_OF(kinds) * COUNT_OF(lengths))
 #define TEXTS (SHORT_TEXTS + COUNT_OF(kinds) * (COUNT_OF(sizes) - 1))
@@ -56,9 +62,11 @@ struct row {
 #define FIRSTS (SCANS + PATTERNS)
 #define IN_ARCHIVES 16
 #define FOR_LENGTHS (TEXTS + 6) /* all texts, and further lengths of patterns in some */
-#define ROWS (TEXTS + PATTERNS + FIRSTS + IN_ARCHIVES + FOR_LENGTHS)
+#define ORDERED_TEXTS ((COUNT_OF(kinds) + 3) * COUNT_OF(lengths)) /* of the kinds, and of three more */
+#define FOR_ORDERS (ORDERED_TEXTS + COUNT_OF(ordered_families))
+#define ROWS (TEXTS + PATTERNS + FIRSTS + IN_ARCHIVES + FOR_LENGTHS + FOR_ORDERS)
 extern struct row rows[ROWS];
-extern struct row *const first_rows, *const archive_rows, *const length_rows;
+extern struct row *const first_rows, *const archive_rows, *const length_rows, *const ordered_rows;
 extern struct row *const longest_texts; /* one of each kind */
 
 /* Sets the rows: both searches by both sides in texts; preparation and the check of patterns by the sides that have them. Kinds
@@ -70,7 +78,8 @@ void add_trial(struct row *row, const struct work *work, int variants, struct sh
 void read_prepared(int side);
 
 /* Whether that is so of every subject of every row, but for those left out; of rows for prefix lengths, whether the sides agree in
-   these; and whether a text that shall be without occurrences is so. A row of which it isn't is printed. */
+   these, and of rows for custom orders, in each order; and whether a text that shall be without occurrences is so. A row of which it
+   isn't is printed. */
 bool agree_on_rows(bool (*agree)(const struct subject *subject));
 bool sides_agree(const struct subject *subject);
 

@@ -21,6 +21,13 @@ struct archive {
     size_t directory; /* where it starts */
 };
 
+/* An order of comparison other than the pattern's own: the places by rank. The shifts are for the C, which makes them beforehand; a
+   build makes its own in each call. */
+struct order {
+    uint8_t places[LONGEST_PATTERN];
+    uint16_t shifts[LONGEST_PATTERN + 1];
+};
+
 /* A pattern with its classes, and the text to look for it in. Each side has prepared it before, into a store of its own. The text
    may be a record of an archive; with a number of a record that is not there, it is empty. */
 struct subject {
@@ -32,6 +39,7 @@ struct subject {
     void *prepared[SIDES];
     const struct archive *archive; /* or NULL */
     uint64_t record;
+    const struct order *order; /* or NULL */
 };
 
 /* The library's report. The columns of a build that reports none are 0. */
@@ -83,6 +91,8 @@ struct version {
     first_function *first; /* NULL in a build that has none */
     lengths_function *prefix_lengths; /* the same */
     lengths_function *tuned_lengths;  /* of the C, tuned by hand; NULL in a build */
+    search_function *ordered;         /* in the subject's order; NULL in a build that has none */
+    void (*fill_shifts)(const void *prepared, struct order *order); /* of the C; NULL in a build */
     /* Of the record in its archive, and of the directory, with the number of the refusal; all NULL in a build without archives. */
     search_function *colussi_record, *kmp_record;
     uint32_t (*read_directory)(const struct archive *archive);

@@ -93,10 +93,23 @@ void into_mean(double *mean, double number, size_t of)
     *mean *= pow(number, 1 / (double)of);
 }
 
+/* The least alone: a slow run of the last variant shall not make the first one fast. */
+static void take_last_off(struct trial *trial, int copy)
+{
+    const double *last = trial->seconds[trial->variants - 1][copy];
+    double least = last[0];
+    for (size_t i = 1; i < trial->turns[copy]; i++)
+        least = fmin(least, last[i]);
+    for (size_t i = 0; i < trial->turns[copy]; i++)
+        trial->seconds[0][copy][i] -= least;
+}
+
 /* Sorts the seconds, so that the turns are lost. */
 static void summarise_copy(struct trial *trial, int copy)
 {
     const size_t turns = trial->turns[copy], copies = (size_t)trial->share.copies;
+    if (trial->less_last)
+        take_last_off(trial, copy);
     for (int v = 0; v < trial->variants; v++)
         into_mean(&trial->times[v].ratios[PAIRS],
                   median_of_ratios(trial->seconds[v][copy], trial->seconds[0][copy], turns), copies);

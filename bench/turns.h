@@ -59,6 +59,7 @@ struct trial {
     const struct work *work;
     int variants;
     struct share share;
+    bool less_last;       /* whether the least time of the last variant is taken off those of the first, copy by copy */
     size_t turns[COPIES]; /* so far */
     double seconds[MOST_VARIANTS][COPIES][MOST_TURNS]; /* sorted in the end */
     struct times times[MOST_VARIANTS];                 /* in the end */

@@ -51,6 +51,7 @@ extern "C" {
 #define POQEWAN_SHORT_LENGTHS 11
 #define POQEWAN_CLASSES_NOT_256 14
 #define POQEWAN_ZERO_CLASS_SHARED 15
+#define POQEWAN_FALSE_ORDER 16
 
 /* How a search ended: run to its end; or cut off at a window, where a comparison was due and the cap was spent, or where the
    pattern occurred and the list had no free entry. Or nothing was searched, since the archive has no such record. */
@@ -166,6 +167,21 @@ poqewan_report poqewan_colussi(poqewan_pattern pattern, const uint8_t *text, siz
  */
 poqewan_report poqewan_kmp(poqewan_pattern pattern, const uint8_t *text, size_t text_len, uint64_t cap,
                            uint32_t *positions, size_t positions_len);
+
+/*
+ * Searches a text in an order of the caller's own: entry i of `order` is the place of the pattern that rank i compares. Cap, list
+ * and report are those of the other searches. Refused, in this order, with the list unchanged: a pattern that is not what
+ * preparation gives for its own length, bytes and classes (4), an order that is not m different places, each below m (16), a
+ * text of more than POQEWAN_LONGEST_TEXT bytes (5).
+ *
+ * Each window is compared afresh, rank by rank from rank 0. After a mismatch it moves on by the least distance that neither this
+ * mismatch nor an earlier match of the window rules out; after an occurrence, by the least from 1 that no place rules out. The
+ * positions are exactly those of poqewan_colussi run to its end; of a search cut off at window b, exactly those below b. The
+ * count depends on the order and has no ceiling here. Noholes and holes go by the pattern's own marks, and
+ * count = at_noholes + at_holes as above.
+ */
+poqewan_report poqewan_ordered(poqewan_pattern pattern, const uint8_t *order, size_t order_len, const uint8_t *text,
+                               size_t text_len, uint64_t cap, uint32_t *positions, size_t positions_len);
 
 /*
  * Searches a text in Colussi's order, without a cap, for the first position where the pattern occurs, and stops there.

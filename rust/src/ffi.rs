@@ -60,7 +60,7 @@ pub struct Bounds {
 /// The ending of a search of one record where the archive has no such record.
 pub const NO_SUCH_RECORD: u32 = 3;
 
-/// The type of both searches.
+/// The type of the searches of Colussi and of Knuth, Morris and Pratt.
 pub type Search = unsafe extern "C" fn(
     pattern: Pattern,
     text: *const u8,
@@ -104,6 +104,17 @@ extern "C" {
 
     pub fn poqewan_kmp(
         pattern: Pattern,
+        text: *const u8,
+        text_len: usize,
+        cap: u64,
+        positions: *mut u32,
+        positions_len: usize,
+    ) -> Report;
+
+    pub fn poqewan_ordered(
+        pattern: Pattern,
+        order: *const u8,
+        order_len: usize,
         text: *const u8,
         text_len: usize,
         cap: u64,

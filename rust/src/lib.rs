@@ -73,6 +73,23 @@
 //! # Ok::<(), Refusal>(())
 //! ```
 //!
+//! In an order of the caller's own, here from right to left:
+//!
+//! ```
+//! use poqewan::{identity, ordered, prepare, Refusal, SCRATCH};
+//!
+//! let pattern = prepare(b"aba", &identity(), &mut [0; SCRATCH])?.pattern;
+//! let mut positions = [0; 8];
+//! let report = ordered(&pattern, &[2, 1, 0], b"ababa", u64::MAX, &mut positions)?;
+//!
+//! assert_eq!(positions[..report.written], [0, 2]);
+//! assert_eq!(report.count, 6);
+//!
+//! let twice = ordered(&pattern, &[2, 1, 2], b"ababa", u64::MAX, &mut positions);
+//! assert_eq!(twice, Err(Refusal::FalseOrder));
+//! # Ok::<(), Refusal>(())
+//! ```
+//!
 //! Three records in one archive, and a search of one of them:
 //!
 //! ```
@@ -189,6 +206,8 @@ pub enum Refusal {
     ClassesNot256 = 14,
     /// A value other than 0 has the class of 0.
     ZeroClassShared = 15,
+    /// The order is not m different places of the pattern, each below m.
+    FalseOrder = 16,
 }
 
 impl Refusal {
@@ -221,6 +240,7 @@ impl fmt::Display for Refusal {
             Self::ShortLengths => "the list of lengths has fewer entries than the text has bytes",
             Self::ClassesNot256 => "the number of classes is not 256",
             Self::ZeroClassShared => "a value other than 0 has the class of 0",
+            Self::FalseOrder => "the order does not have each place of the pattern once",
         })
     }
 }
@@ -362,6 +382,45 @@ pub fn kmp(
     search(ffi::poqewan_kmp, pattern, text, cap, positions)
 }
 
+/// Searches a text in an order of the caller's own: entry i of the order is the place of the pattern
+/// that rank i compares. Cap, list and report are those of [`colussi`].
+///
+/// Each window is compared afresh, rank by rank from rank 0. After a mismatch it moves on by the
+/// least distance that neither this mismatch nor an earlier match of the window rules out; after an
+/// occurrence, by the least from 1 that no place rules out. The positions are exactly those of
+/// [`colussi`] run to its end; of a search cut off at window b, exactly those below b. The count
+/// depends on the order and has no ceiling here. Noholes and holes go by the pattern's own marks, and
+/// count = at_noholes + at_holes as in [`colussi`].
+///
+/// # Errors
+///
+/// Refused, in this order, with the list unchanged: a pattern that is not what preparation gives
+/// for its own length, bytes and classes (4), an order that is not m different places, each below m
+/// (16), a text of more than [`LONGEST_TEXT`] bytes (5).
+pub fn ordered(
+    pattern: &Pattern,
+    order: &[u8],
+    text: &[u8],
+    cap: u64,
+    positions: &mut [u32],
+) -> Result<Report, Refusal> {
+    // SAFETY: each pointer and its number of elements are those of a slice, and what is written is
+    // borrowed mutably, so it overlaps nothing else. Any value of the pattern is answered.
+    let answer = unsafe {
+        ffi::poqewan_ordered(
+            *pattern,
+            order.as_ptr(),
+            order.len(),
+            text.as_ptr(),
+            text.len(),
+            cap,
+            positions.as_mut_ptr(),
+            positions.len(),
+        )
+    };
+    searched(&answer)
+}
+
 /// Searches a text in Colussi's order, without a cap, for the first position where the pattern
 /// occurs, and stops there.
 ///
@@ -487,7 +546,7 @@ pub fn charge(count: u64) -> u64 {
     unsafe { ffi::poqewan_charge(count) }
 }
 
-/// Calls one of the library's two searches.
+/// Calls the search of Colussi or that of Knuth, Morris and Pratt.
 fn search(
     by: ffi::Search,
     pattern: &Pattern,
@@ -551,6 +610,7 @@ fn accepted(number: u32) -> Result<(), Refusal> {
         11 => Err(Refusal::ShortLengths),
         14 => Err(Refusal::ClassesNot256),
         15 => Err(Refusal::ZeroClassShared),
+        16 => Err(Refusal::FalseOrder),
         other => unreachable!("the library's contract has no refusal {other}"),
     }
 }
@@ -619,7 +679,7 @@ mod tests {
 
     #[test]
     fn the_number_of_a_refusal_is_read_back_as_that_refusal() {
-        for number in (1..=5).chain([7, 8, 9, 10, 11, 14, 15]) {
+        for number in (1..=5).chain([7, 8, 9, 10, 11, 14, 15, 16]) {
             assert_eq!(accepted(number).map_err(Refusal::number), Err(number));
         }
         assert_eq!(accepted(0), Ok(()));

@@ -21,6 +21,15 @@ uint64_t charge_of(const uint8_t *bytes, size_t m, const uint8_t *text, size_t n
     return poqewan_charge(r.count);
 }
 
+uint64_t charge_of_order(const poqewan_pattern *pattern, const uint8_t *order, const uint8_t *text, size_t n);
+
+uint64_t charge_of_order(const poqewan_pattern *pattern, const uint8_t *order, const uint8_t *text, size_t n)
+{
+    uint32_t positions[8192];
+    poqewan_report r = poqewan_ordered(*pattern, order, pattern->len, text, n, UINT64_MAX, positions, 8192);
+    return r.refusal == POQEWAN_FALSE_ORDER ? 0 : poqewan_charge(r.count);
+}
+
 uint64_t charge_of_lengths(const poqewan_pattern *pattern, const uint8_t *text, size_t n);
 
 uint64_t charge_of_lengths(const poqewan_pattern *pattern, const uint8_t *text, size_t n)

@@ -31,6 +31,7 @@ _Static_assert(POQEWAN_ZERO_IN_PATTERN == 10, "zero in pattern");
 _Static_assert(POQEWAN_SHORT_LENGTHS == 11, "short list of lengths");
 _Static_assert(POQEWAN_CLASSES_NOT_256 == 14, "classes not 256");
 _Static_assert(POQEWAN_ZERO_CLASS_SHARED == 15, "zero's class shared");
+_Static_assert(POQEWAN_FALSE_ORDER == 16, "false order");
 
 /* The numbers of the endings. */
 _Static_assert(POQEWAN_DONE == 0, "done");
@@ -86,7 +87,8 @@ _Static_assert(offsetof(poqewan_bounds, end) == 16, "end");
 #define UNWRITTEN UINT32_C(0xA5A5A5A5)
 #define UNTOUCHED UINT16_C(0xA5A5)
 
-/* Each value its own class; small and capital letters in one class, with c in b's and each other value in its own. */
+/* Each value its own class; small and capital letters in one class, with c in b's and each other value in its own. The first m
+   entries of the former are also the places of a pattern, from left to right. */
 static uint8_t own[POQEWAN_CLASSES], joined[POQEWAN_CLASSES];
 
 static void fill_classes(void)
@@ -283,9 +285,12 @@ static poqewan_pattern prepared(const char *word)
     return prepared_by(own, word);
 }
 
-/* All searches must refuse with this number and leave the list as it is. The list of lengths has an entry for each byte. */
+/* All searches must refuse with this number and leave the list as it is. The list of lengths has an entry for each byte, and the
+   custom order has the places from left to right. */
 static void check_refused(const poqewan_pattern *pattern, const uint8_t *text, size_t text_len, uint32_t number)
 {
+    size_t order_len = pattern->len < sizeof own ? pattern->len : sizeof own;
+    uint8_t *order = lend_bytes(own, order_len);
     uint32_t *list = lend_list(4);
     uint16_t *lengths = lend_numbers(text_len);
     CHECK(is_refused_first(poqewan_find_first(*pattern, text, text_len), number));
@@ -293,10 +298,13 @@ static void check_refused(const poqewan_pattern *pattern, const uint8_t *text, s
         CHECK(is_refusal(searches[s](*pattern, text, text_len, UINT64_MAX, list, 4), number));
         CHECK(unwritten(list, 0, 4));
     }
+    CHECK(is_refusal(poqewan_ordered(*pattern, order, order_len, text, text_len, UINT64_MAX, list, 4), number));
+    CHECK(unwritten(list, 0, 4));
     CHECK(is_lengths(poqewan_prefix_lengths(*pattern, text, text_len, lengths, text_len), number, 0));
     CHECK(numbers_are(lengths, 0, text_len, UNTOUCHED));
     free(lengths);
     free(list);
+    free(order);
 }
 
 #define LONG_LIST 16
@@ -717,6 +725,12 @@ static void test_null(void)
         CHECK(is_report(searches[s](pattern, a, 1, 0, NULL, 0), POQEWAN_SPENT, 0, none, 0));
         CHECK(is_report(searches[s](pattern, a, 1, 1, NULL, 0), POQEWAN_FULL, 0, (struct counts){1, 0, 1}, 0));
     }
+    CHECK(is_refusal(poqewan_ordered(pattern, NULL, 0, NULL, 0, 0, NULL, 0), POQEWAN_FALSE_ORDER));
+    CHECK(is_refusal(poqewan_ordered(pattern, NULL, 0, a, 1, 1, list, 1), POQEWAN_FALSE_ORDER));
+    CHECK(is_report(poqewan_ordered(pattern, own, 1, NULL, 0, 0, NULL, 0), POQEWAN_DONE, 0, none, 0));
+    CHECK(is_report(poqewan_ordered(pattern, own, 1, NULL, 0, 0, list, 1), POQEWAN_DONE, 0, none, 0));
+    CHECK(is_report(poqewan_ordered(pattern, own, 1, a, 1, 0, NULL, 0), POQEWAN_SPENT, 0, none, 0));
+    CHECK(is_report(poqewan_ordered(pattern, own, 1, a, 1, 1, NULL, 0), POQEWAN_FULL, 0, (struct counts){1, 0, 1}, 0));
     CHECK(unwritten(list, 0, 1));
     CHECK(is_first(poqewan_find_first(pattern, NULL, 0), 0, 0, 0));
     CHECK(is_lengths(poqewan_prefix_lengths(pattern, NULL, 0, NULL, 0), 0, 0));
@@ -749,6 +763,7 @@ static void test_changed_patterns(void)
             ((uint8_t *)&changed)[at] ^= (uint8_t)(1u << at % 8);
             if (PADDING_FROM <= at && at < PADDING_TO) {
                 CHECK(is_report(poqewan_colussi(changed, text, 12, 0, NULL, 0), POQEWAN_SPENT, 0, none, 0));
+                CHECK(is_report(poqewan_ordered(changed, own, pattern.len, text, 12, 0, NULL, 0), POQEWAN_SPENT, 0, none, 0));
                 CHECK(poqewan_find_first(changed, text, 12).found == 1);
                 CHECK(poqewan_prefix_lengths(changed, text, 12, lengths, 12).refusal == 0);
             } else {
@@ -1026,6 +1041,94 @@ static poqewan_report check_search(int search, const poqewan_pattern *pattern, c
     return r;
 }
 
+static bool same_letters(const poqewan_pattern *pattern, size_t p, size_t q)
+{
+    return equal(pattern, pattern->bytes[p], pattern->bytes[q]);
+}
+
+/* How far a window of a custom order moves on, at each rank and, at m, after an occurrence: the least distance that is not ruled
+   out. 0 always is. A place that agreed rules a distance out if the letter so far before it is another, and one that differed if
+   that letter is the same. A distance that reaches past a place is none of its business, and so none rules out m. */
+static void fill_ordered_shifts(const poqewan_pattern *pattern, const uint8_t *order, size_t *shifts)
+{
+    size_t m = pattern->len;
+    bool out[POQEWAN_LONGEST_PATTERN + 1] = {true}; /* by the places that agreed */
+    for (size_t i = 0; i <= m; i++) {
+        size_t k = 0;
+        while (out[k] || (i < m && k <= order[i] && same_letters(pattern, order[i], order[i] - k)))
+            k++;
+        shifts[i] = k;
+        for (size_t d = 1; i < m && d <= order[i]; d++)
+            out[d] = out[d] || !same_letters(pattern, order[i], order[i] - d);
+    }
+}
+
+/* The report of a custom order by the words of the request. Noholes are found as above. */
+static poqewan_report ordered_by_rules(const poqewan_pattern *pattern, const uint8_t *order, const uint8_t *text, size_t n,
+                                       uint64_t cap, size_t list_len)
+{
+    size_t m = pattern->len, i = 0, kmin[POQEWAN_LONGEST_PATTERN + 1], shifts[POQEWAN_LONGEST_PATTERN + 1];
+    poqewan_report r = {0};
+    fill_kmin(pattern, kmin);
+    fill_ordered_shifts(pattern, order, shifts);
+    for (size_t b = 0; b + m <= n; b += shifts[i]) {
+        for (i = 0; i < m; i++) {
+            if (r.count == cap) {
+                r.ending = POQEWAN_SPENT;
+                r.window = b;
+                return r;
+            }
+            r.count++;
+            if (kmin[order[i]] > 0)
+                r.at_noholes++;
+            else
+                r.at_holes++;
+            if (!equal(pattern, pattern->bytes[order[i]], text[b + order[i]]))
+                break;
+        }
+        if (i == m && r.written == list_len) {
+            r.ending = POQEWAN_FULL;
+            r.window = b;
+            return r;
+        }
+        r.written += i == m;
+    }
+    return r;
+}
+
+/* Searches in a custom order and checks what is promised of any report. The positions are those of Colussi's order run to its
+   end, or those of them below the window of a cut. Gives the report. */
+static poqewan_report check_ordered(const poqewan_pattern *pattern, const uint8_t *order, const uint8_t *text, size_t n,
+                                    uint64_t cap, size_t list_len)
+{
+    size_t m = pattern->len, below = 0;
+    uint8_t *lent = lend_bytes(order, m);
+    uint32_t *list = lend_list(list_len), *full = lend_list(n);
+    poqewan_report r = poqewan_ordered(*pattern, lent, m, text, n, cap, list, list_len);
+    poqewan_report rules = ordered_by_rules(pattern, order, text, n, cap, list_len);
+    poqewan_report colussi = poqewan_colussi(*pattern, text, n, UINT64_MAX, full, n);
+    while (below < colussi.written && (r.ending == POQEWAN_DONE || full[below] < r.window))
+        below++;
+
+    CHECK(is_report(r, rules.ending, rules.window, counts_of(rules), rules.written));
+    CHECK(r.written <= list_len && unwritten(list, r.written, list_len));
+    CHECK(lists_occurrences(list, r.written, pattern, text, n, r.ending == POQEWAN_DONE ? n : r.window));
+    CHECK(r.written == below && (below == 0 || memcmp(list, full, below * sizeof *list) == 0));
+    CHECK(r.count <= cap);
+    CHECK(r.count == r.at_noholes + r.at_holes);
+    if (r.ending == POQEWAN_DONE)
+        CHECK(r.window == 0);
+    if (r.ending == POQEWAN_SPENT)
+        CHECK(r.count == cap && r.window + m <= n);
+    if (r.ending == POQEWAN_FULL)
+        CHECK(r.written == list_len && occurs(pattern, text, n, r.window));
+    CHECK(memcmp(lent, order, m) == 0);
+    free(full);
+    free(list);
+    free(lent);
+    return r;
+}
+
 /* With what the whole search spends and fills it is done; with less it is cut off. */
 static void check_limits(int search, const poqewan_pattern *pattern, const uint8_t *text, size_t n)
 {
@@ -1184,6 +1287,7 @@ static void test_changed_classes(void)
                     if (p.refusal == 0 && same_tables(&p.pattern, &changed)) {
                         for (int s = 0; s < SEARCHES; s++)
                             check_search(s, &changed, text, 12, UINT64_MAX, 12);
+                        check_ordered(&changed, own, text, 12, UINT64_MAX, 12);
                         accepted++;
                     } else {
                         check_refused(&changed, text, 12, POQEWAN_FALSE_PATTERN);
@@ -1508,34 +1612,46 @@ static uint8_t member_of(const uint8_t *classes, uint8_t class)
     return v;
 }
 
-/* Powers of random words, of every length, long ones soon, every second round with a byte changed; in texts that are pieces of the
-   pattern, from its start or from within, with any byte between them now and then. One to three classes beside that of 0; a
-   byte of a piece is any of its class. */
-static void test_random_lengths(size_t rounds)
+/* A power of a random word, of every length in turn, long ones soon, every second round with a byte changed. One to three classes
+   beside that of 0. */
+static poqewan_pattern random_power(size_t round)
 {
     uint8_t bytes[POQEWAN_LONGEST_PATTERN], classes[POQEWAN_CLASSES];
+    size_t others = 1 + random_below(3), of_zero = random_below(256);
+    for (size_t v = 0; v < POQEWAN_CLASSES; v++)
+        classes[v] = (uint8_t)(of_zero + (v == 0 ? 0 : 1 + random_below(others)));
+    size_t m = 1 + round / 2 * 37 % POQEWAN_LONGEST_PATTERN, root = 1 + random_below(random_below(2) ? m : 1 + m / 4);
+    for (size_t p = 0; p < m; p++)
+        bytes[p] = p < root ? (uint8_t)(1 + random_below(255)) : member_of(classes, classes[bytes[p - root]]);
+    if (round % 2 == 1)
+        bytes[random_below(m)] = (uint8_t)(1 + random_below(255));
+    return prepare_by(classes, POQEWAN_CLASSES, bytes, m, POQEWAN_SCRATCH, 0).pattern;
+}
+
+/* A text of pieces of the pattern, from its start or from within, with any byte between them now and then. A byte of a piece is
+   any of its class. */
+static uint8_t *lend_pieces(const poqewan_pattern *pattern, size_t n)
+{
+    size_t m = pattern->len;
+    uint8_t *text = lend(n);
+    for (size_t at = 0; at < n;) {
+        size_t from = random_below(2) ? 0 : random_below(m);
+        size_t len = random_below(3) == 0 ? m - from : random_below(m - from + 1);
+        for (size_t p = from; p < from + len && at < n; p++)
+            text[at++] = member_of(pattern->classes, pattern->classes[pattern->bytes[p]]);
+        if (at < n && random_below(3) == 0)
+            text[at++] = (uint8_t)random_below(256);
+    }
+    return text;
+}
+
+static void test_random_lengths(size_t rounds)
+{
     size_t found = 0;
     for (size_t round = 0; round < rounds; round++) {
-        size_t others = 1 + random_below(3), of_zero = random_below(256);
-        for (size_t v = 0; v < POQEWAN_CLASSES; v++)
-            classes[v] = (uint8_t)(of_zero + (v == 0 ? 0 : 1 + random_below(others)));
-        size_t m = 1 + round / 2 * 37 % POQEWAN_LONGEST_PATTERN, root = 1 + random_below(random_below(2) ? m : 1 + m / 4);
-        for (size_t p = 0; p < m; p++)
-            bytes[p] = p < root ? (uint8_t)(1 + random_below(255)) : member_of(classes, classes[bytes[p - root]]);
-        if (round % 2 == 1)
-            bytes[random_below(m)] = (uint8_t)(1 + random_below(255));
-        poqewan_pattern pattern = prepare_by(classes, POQEWAN_CLASSES, bytes, m, POQEWAN_SCRATCH, 0).pattern;
-
-        size_t n = random_below(3 * m + 8);
-        uint8_t *text = lend(n);
-        for (size_t at = 0; at < n;) {
-            size_t from = random_below(2) ? 0 : random_below(m);
-            size_t len = random_below(3) == 0 ? m - from : random_below(m - from + 1);
-            for (size_t p = from; p < from + len && at < n; p++)
-                text[at++] = member_of(classes, classes[bytes[p]]);
-            if (at < n && random_below(3) == 0)
-                text[at++] = (uint8_t)random_below(256);
-        }
+        poqewan_pattern pattern = random_power(round);
+        size_t n = random_below(3 * pattern.len + 8);
+        uint8_t *text = lend_pieces(&pattern, n);
         found += check_search(KMP, &pattern, text, n, UINT64_MAX, n + 1).written;
         free(text);
     }
@@ -1616,6 +1732,478 @@ static void test_lengths_of_longest_text(void)
     list = lend_numbers(n - 1);
     CHECK(is_lengths(poqewan_prefix_lengths(pattern, text, n, list, n - 1), POQEWAN_SHORT_LENGTHS, 0));
     CHECK(numbers_are(list, 0, n - 1, UNTOUCHED));
+    free(list);
+    free(text);
+}
+
+/* Worked by hand from the words of the request: the positions, and the places that are compared, a word for each window, with
+   those of them that are noholes. Orders from left to right, from right to left, Colussi's own and others; the last window; shifts
+   after an occurrence that are less than the pattern's length, and as much; equal places that are compared afresh; caps and lists
+   at their edges; texts as long as the pattern, and shorter; patterns of one byte; and by the joined classes. */
+static const struct ordered_record {
+    const uint8_t *classes;
+    const char *pattern, *order, *text;
+    uint64_t cap;
+    size_t list_len;
+    uint32_t ending;
+    size_t window, written;
+    uint32_t positions[3];
+    const char *compared;
+    uint64_t at_noholes;
+} ordered_records[] = {
+    {own, "aab", "012", "aaaab", UINT64_MAX, LONG_LIST, POQEWAN_DONE, 0, 1, {2}, "012 012 012", 3},
+    {own, "aab", "210", "aaaab", UINT64_MAX, LONG_LIST, POQEWAN_DONE, 0, 1, {2}, "2 2 210", 3},
+    {own, "aab", "120", "aaaab", UINT64_MAX, LONG_LIST, POQEWAN_DONE, 0, 1, {2}, "12 12 120", 3},
+    {own, "aba", "012", "ababa", UINT64_MAX, LONG_LIST, POQEWAN_DONE, 0, 2, {0, 2}, "012 012", 2},
+    {own, "aba", "201", "ababa", UINT64_MAX, LONG_LIST, POQEWAN_DONE, 0, 2, {0, 2}, "201 201", 2},
+    {own, "aba", "012", "abcaba", UINT64_MAX, LONG_LIST, POQEWAN_DONE, 0, 1, {3}, "012 012", 2},
+    {own, "aba", "120", "abcaba", UINT64_MAX, LONG_LIST, POQEWAN_DONE, 0, 1, {3}, "12 120", 2},
+    {own, "aba", "210", "abcaba", UINT64_MAX, LONG_LIST, POQEWAN_DONE, 0, 1, {3}, "2 21 210", 2},
+    {own, "ab", "01", "aaaa", UINT64_MAX, LONG_LIST, POQEWAN_DONE, 0, 0, {0}, "01 01 01", 3},
+    {own, "ab", "10", "aaaa", UINT64_MAX, LONG_LIST, POQEWAN_DONE, 0, 0, {0}, "1 1 1", 3},
+    {own, "ab", "10", "cbab", UINT64_MAX, LONG_LIST, POQEWAN_DONE, 0, 1, {2}, "10 10", 2},
+    {own, "ab", "01", "abab", UINT64_MAX, LONG_LIST, POQEWAN_DONE, 0, 2, {0, 2}, "01 01", 2},
+    {own, "aa", "01", "aaaa", UINT64_MAX, LONG_LIST, POQEWAN_DONE, 0, 3, {0, 1, 2}, "01 01 01", 0},
+    {own, "aa", "01", "aabaa", UINT64_MAX, LONG_LIST, POQEWAN_DONE, 0, 2, {0, 3}, "01 01 01", 0},
+    {own, "aa", "10", "aabaa", UINT64_MAX, LONG_LIST, POQEWAN_DONE, 0, 2, {0, 3}, "10 1 10", 0},
+    {own, "abab", "0123", "abacabab", UINT64_MAX, LONG_LIST, POQEWAN_DONE, 0, 1, {4}, "0123 0 0123", 4},
+    {own, "abab", "3210", "abacabab", UINT64_MAX, LONG_LIST, POQEWAN_DONE, 0, 1, {4}, "3 3 321 3210", 6},
+    {own, "aabaa", "43210", "aabaaaabaa", UINT64_MAX, LONG_LIST, POQEWAN_DONE, 0, 2, {0, 5}, "43210 4 43210", 2},
+    {own, "aabaa", "02413", "aabaaaabaa", UINT64_MAX, LONG_LIST, POQEWAN_DONE, 0, 2, {0, 5}, "02413 02 02 02413", 4},
+    {own, "a", "0", "aab", UINT64_MAX, LONG_LIST, POQEWAN_DONE, 0, 2, {0, 1}, "0 0 0", 0},
+    {own, "a", "0", "aab", 2, LONG_LIST, POQEWAN_SPENT, 2, 2, {0, 1}, "0 0", 0},
+    {own, "a", "0", "aab", UINT64_MAX, 1, POQEWAN_FULL, 1, 1, {0}, "0 0", 0},
+    {own, "a", "0", "", 0, 0, POQEWAN_DONE, 0, 0, {0}, "", 0},
+    {own, "aba", "201", "ab", 0, LONG_LIST, POQEWAN_DONE, 0, 0, {0}, "", 0},
+    {own, "aba", "201", "aba", 0, LONG_LIST, POQEWAN_SPENT, 0, 0, {0}, "", 0},
+    {own, "aba", "201", "aba", 3, LONG_LIST, POQEWAN_DONE, 0, 1, {0}, "201", 1},
+    {own, "aba", "120", "ababa", 3, LONG_LIST, POQEWAN_SPENT, 2, 1, {0}, "120", 1},
+    {own, "aba", "120", "ababa", 5, LONG_LIST, POQEWAN_SPENT, 2, 1, {0}, "120 12", 2},
+    {own, "aba", "120", "ababa", 6, 2, POQEWAN_DONE, 0, 2, {0, 2}, "120 120", 2},
+    {own, "aba", "120", "ababa", UINT64_MAX, 1, POQEWAN_FULL, 2, 1, {0}, "120 120", 2},
+    {own, "aba", "120", "ababa", 6, 1, POQEWAN_FULL, 2, 1, {0}, "120 120", 2},
+    {own, "aba", "120", "ababa", 3, 0, POQEWAN_FULL, 0, 0, {0}, "120", 1},
+    {own, "aba", "120", "ababa", 2, 0, POQEWAN_SPENT, 0, 0, {0}, "12", 1},
+    {own, "bca", "021", "bbacabca", UINT64_MAX, LONG_LIST, POQEWAN_DONE, 0, 1, {5}, "021 0 0 021", 4},
+    {joined, "bca", "021", "bbacabca", UINT64_MAX, LONG_LIST, POQEWAN_DONE, 0, 2, {0, 5}, "021 02 0 021", 3},
+    {joined, "abAB", "1302", "aBAbAba", UINT64_MAX, LONG_LIST, POQEWAN_DONE, 0, 2, {0, 2}, "1302 1302", 4},
+    {joined, "abAB", "1302", "aBAbAba", 5, LONG_LIST, POQEWAN_SPENT, 2, 1, {0}, "1302 1", 3},
+};
+
+static void test_worked_orders(void)
+{
+    for (size_t i = 0; i < sizeof ordered_records / sizeof *ordered_records; i++) {
+        const struct ordered_record *r = &ordered_records[i];
+        poqewan_pattern pattern = prepared_by(r->classes, r->pattern);
+        size_t m = strlen(r->order), n = strlen(r->text);
+        uint8_t *order = lend(m), *text = lend_bytes(r->text, n);
+        uint32_t *list = lend_list(r->list_len);
+        struct counts counts = {0, r->at_noholes, 0};
+        for (const char *c = r->compared; *c != '\0'; c++)
+            counts.count += *c != ' ';
+        counts.at_holes = counts.count - counts.at_noholes;
+        for (size_t p = 0; p < m; p++)
+            order[p] = (uint8_t)(r->order[p] - '0');
+        poqewan_report got = poqewan_ordered(pattern, order, m, text, n, r->cap, list, r->list_len);
+        CHECK(is_report(got, r->ending, r->window, counts, r->written));
+        CHECK(memcmp(list, r->positions, r->written * sizeof *list) == 0);
+        CHECK(unwritten(list, r->written, r->list_len));
+        CHECK(n == 0 || memcmp(text, r->text, n) == 0);
+        check_ordered(&pattern, order, text, n, r->cap, r->list_len);
+        free(list);
+        free(text);
+        free(order);
+    }
+}
+
+static void swap(uint8_t *one, uint8_t *other)
+{
+    uint8_t kept = *one;
+    *one = *other;
+    *other = kept;
+}
+
+/* The next arrangement of the places, if there is one. The first has them from left to right. */
+static bool next_order(uint8_t *order, size_t m)
+{
+    size_t i = m - 1, j = m - 1;
+    while (i > 0 && order[i - 1] > order[i])
+        i--;
+    if (i == 0)
+        return false;
+    while (order[j] < order[i - 1])
+        j--;
+    swap(&order[i - 1], &order[j]);
+    for (j = m - 1; i < j; i++, j--)
+        swap(&order[i], &order[j]);
+    return true;
+}
+
+/* The same as for the other searches, in a custom order. */
+static void check_ordered_limits(const poqewan_pattern *pattern, const uint8_t *order, const uint8_t *text, size_t n)
+{
+    poqewan_report whole = check_ordered(pattern, order, text, n, UINT64_MAX, n + 1);
+    CHECK(whole.ending == POQEWAN_DONE);
+    for (uint64_t cap = 0; cap <= whole.count + 1; cap++) {
+        poqewan_report r = check_ordered(pattern, order, text, n, cap, whole.written);
+        CHECK(r.ending == (cap < whole.count ? POQEWAN_SPENT : POQEWAN_DONE));
+    }
+    /* A cap that is 0 in its lower half. */
+    CHECK(check_ordered(pattern, order, text, n, UINT64_C(1) << 32, whole.written).ending == POQEWAN_DONE);
+    for (size_t list_len = 0; list_len <= whole.written + 1; list_len++) {
+        poqewan_report r = check_ordered(pattern, order, text, n, UINT64_MAX, list_len);
+        CHECK(r.ending == (list_len < whole.written ? POQEWAN_FULL : POQEWAN_DONE));
+    }
+}
+
+/* In every arrangement, or in a quick run in every seventh. */
+static void test_limits_of_orders(bool quick)
+{
+    static const char *const pairs[][2] = {
+        {"a", ""}, {"a", "a"}, {"ab", "a"}, {"aba", "aba"}, {"aba", "abab"}, {"aa", "aaaaaa"}, {"aab", "aaaaabaab"},
+        {"abab", "abacabababab"}, {"abb", "cabbababb"}, {"aabaa", "aabaaaabaabaa"},
+    };
+    uint8_t order[5];
+    for (size_t i = 0; i < sizeof pairs / sizeof *pairs; i++) {
+        poqewan_pattern pattern = prepared(pairs[i][0]);
+        size_t n = strlen(pairs[i][1]), number = 0;
+        uint8_t *text = lend_bytes(pairs[i][1], n);
+        memcpy(order, own, pattern.len);
+        do
+            if (!quick || number++ % 7 == 0)
+                check_ordered_limits(&pattern, order, text, n);
+        while (next_order(order, pattern.len));
+        free(text);
+    }
+}
+
+/* Byte 0 breaks every occurrence that would cover it, whatever the order is. */
+static void test_zero_in_text_of_orders(void)
+{
+    static const uint32_t positions[] = {0, 4, 6};
+    uint8_t *text = lend_bytes("aba\0ababa\0a\0a", 13), order[3];
+    uint32_t *list = lend_list(4);
+    poqewan_pattern pattern = prepared("aba");
+    memcpy(order, own, sizeof order);
+    do {
+        check_ordered_limits(&pattern, order, text, 13);
+        poqewan_report r = poqewan_ordered(pattern, order, 3, text, 13, UINT64_MAX, list, 4);
+        CHECK(r.refusal == 0 && r.ending == POQEWAN_DONE && r.written == 3);
+        CHECK(memcmp(list, positions, sizeof positions) == 0);
+    } while (next_order(order, 3));
+    free(list);
+    free(text);
+}
+
+/* Each value as a pattern of one byte, in a text of all values: it is equal to itself alone. */
+static void test_orders_of_each_value(void)
+{
+    uint8_t *text = lend_bytes(own, POQEWAN_CLASSES);
+    for (unsigned value = 1; value < POQEWAN_CLASSES; value++) {
+        uint8_t byte = (uint8_t)value;
+        poqewan_pattern pattern = prepare(&byte, 1, POQEWAN_SCRATCH, 0).pattern;
+        poqewan_report r = check_ordered(&pattern, own, text, POQEWAN_CLASSES, UINT64_MAX, 2);
+        CHECK(is_report(r, POQEWAN_DONE, 0, (struct counts){POQEWAN_CLASSES, 0, POQEWAN_CLASSES}, 1));
+    }
+    free(text);
+}
+
+/* Every pattern in every text, over so many letters and up to these lengths, in every arrangement: with all that the search asks
+   for, and with a cap and a list drawn by lot. */
+static void check_all_orders(size_t letters, size_t longest_pattern, size_t longest_text)
+{
+    uint8_t bytes[POQEWAN_LONGEST_PATTERN], order[POQEWAN_LONGEST_PATTERN];
+    for (size_t m = 1; m <= longest_pattern; m++)
+        for (size_t word = 0; word < words_of(m, letters); word++) {
+            put_word(bytes, m, letters, word);
+            poqewan_pattern pattern = prepare(bytes, m, POQEWAN_SCRATCH, 0).pattern;
+            memcpy(order, own, m);
+            do
+                for (size_t n = 0; n <= longest_text; n++) {
+                    uint8_t *text = lend(n);
+                    for (size_t number = 0; number < words_of(n, letters); number++) {
+                        put_word(text, n, letters, number);
+                        poqewan_report whole = check_ordered(&pattern, order, text, n, UINT64_MAX, n + 1);
+                        CHECK(whole.ending == POQEWAN_DONE);
+                        check_ordered(&pattern, order, text, n, random_below(whole.count + 2), random_below(whole.written + 2));
+                    }
+                    free(text);
+                }
+            while (next_order(order, m));
+        }
+}
+
+static void test_all_orders(bool quick)
+{
+    check_all_orders(2, quick ? 3 : 4, quick ? 4 : 7);
+    check_all_orders(3, quick ? 2 : 3, quick ? 3 : 5);
+}
+
+static void random_order(uint8_t *order, size_t m)
+{
+    memcpy(order, own, m);
+    for (size_t i = m - 1; i > 0; i--)
+        swap(&order[i], &order[random_below(i + 1)]);
+}
+
+/* The orders that a drawn pattern is searched in: from left to right, from right to left, Colussi's own, the places of even
+   number before the others, and two drawn by lot, of which one is the first with a few places exchanged. */
+enum { ASCENDING, DESCENDING, OF_COLUSSI, EVEN_FIRST, EXCHANGED, DRAWN, ORDERS };
+
+static void fill_order(uint8_t *order, const poqewan_pattern *pattern, int which)
+{
+    size_t m = pattern->len;
+    memcpy(order, which == OF_COLUSSI ? pattern->order : own, m);
+    if (which == DESCENDING)
+        for (size_t i = 0; i < m; i++)
+            order[i] = (uint8_t)(m - 1 - i);
+    if (which == EVEN_FIRST)
+        for (size_t i = 0; i < m; i++)
+            order[i] = (uint8_t)(i < (m + 1) / 2 ? 2 * i : 2 * (i - (m + 1) / 2) + 1);
+    if (which == EXCHANGED)
+        for (int times = 0; times < 3; times++)
+            swap(&order[random_below(m)], &order[random_below(m)]);
+    if (which == DRAWN)
+        random_order(order, m);
+}
+
+/* The places from one of them on, and then those before it. */
+static void order_from(uint8_t *order, size_t m, size_t place)
+{
+    for (size_t i = 0; i < m; i++)
+        order[i] = (uint8_t)((place + i) % m);
+}
+
+/* A column goes by the place, and not by its rank: each place as the only nohole, and then as the only hole but place 0, in the
+   patterns of the same test above. It is compared first, and differs. In a quick run every eleventh. */
+static void test_column_of_each_place_in_orders(bool quick)
+{
+    uint8_t order[POQEWAN_LONGEST_PATTERN];
+    for (size_t place = 1; place < POQEWAN_LONGEST_PATTERN; place += quick ? 11 : 1) {
+        size_t m = 2 * place + 1 < POQEWAN_LONGEST_PATTERN ? 2 * place + 1 : POQEWAN_LONGEST_PATTERN;
+        uint8_t *text = lend(m);
+        memset(text, 'a', m);
+        text[place] = 'b';
+        poqewan_pattern pattern = prepare(text, m, POQEWAN_SCRATCH, 0).pattern;
+        text[place] = 0;
+        order_from(order, m, place);
+        poqewan_report r = check_ordered(&pattern, order, text, m, UINT64_MAX, 1);
+        CHECK(is_report(r, POQEWAN_DONE, 0, (struct counts){1, 1, 0}, 0));
+        free(text);
+
+        m = POQEWAN_LONGEST_PATTERN;
+        text = lend(m);
+        memset(text, 'b', place);
+        memset(text + place, 'c', m - place);
+        text[0] = text[place] = 'a';
+        pattern = prepare(text, m, POQEWAN_SCRATCH, 0).pattern;
+        text[place] = 0;
+        order_from(order, m, place);
+        r = check_ordered(&pattern, order, text, m, UINT64_MAX, 1);
+        CHECK(is_report(r, POQEWAN_DONE, 0, (struct counts){1, 0, 1}, 0));
+        free(text);
+    }
+}
+
+/* Patterns of every length by drawn classes, in texts of their pieces, in each of these orders: whole, and with a cap and a list
+   drawn by lot, so that all endings are met. */
+static void test_random_orders(size_t rounds)
+{
+    uint8_t order[POQEWAN_LONGEST_PATTERN];
+    size_t endings[3] = {0}, found = 0;
+    for (size_t round = 0; round < rounds; round++) {
+        poqewan_pattern pattern = random_power(round);
+        size_t n = random_below(3 * pattern.len + 8);
+        uint8_t *text = lend_pieces(&pattern, n);
+        for (int which = 0; which < ORDERS; which++) {
+            fill_order(order, &pattern, which);
+            poqewan_report whole = check_ordered(&pattern, order, text, n, UINT64_MAX, n + 1);
+            CHECK(whole.ending == POQEWAN_DONE);
+            uint64_t cap = random_below(2) ? UINT64_MAX : random_below(whole.count + 2);
+            poqewan_report r = check_ordered(&pattern, order, text, n, cap, random_below(whole.written + 2));
+            CHECK(r.ending <= POQEWAN_FULL);
+            endings[r.ending <= POQEWAN_FULL ? r.ending : 0]++;
+            found += whole.written;
+        }
+        free(text);
+    }
+    CHECK(found > 0 && endings[POQEWAN_DONE] > 0 && endings[POQEWAN_SPENT] > 0 && endings[POQEWAN_FULL] > 0);
+}
+
+/* The search must refuse with this number and leave the list as it is, whatever the cap is and with or without a list. */
+static void check_refused_order(const poqewan_pattern *pattern, const uint8_t *order, size_t order_len, const uint8_t *text,
+                                size_t n, uint32_t number)
+{
+    uint8_t *lent = lend_bytes(order, order_len);
+    uint32_t *list = lend_list(4);
+    for (size_t list_len = 0; list_len <= 4; list_len += 4) {
+        uint64_t cap = list_len == 0 ? 0 : UINT64_MAX;
+        CHECK(is_refusal(poqewan_ordered(*pattern, lent, order_len, text, n, cap, list, list_len), number));
+        CHECK(unwritten(list, 0, 4));
+    }
+    free(list);
+    free(lent);
+}
+
+static size_t how_often(uint8_t byte, const uint8_t *bytes, size_t len)
+{
+    size_t times = 0;
+    for (size_t i = 0; i < len; i++)
+        times += bytes[i] == byte;
+    return times;
+}
+
+/* Every sequence of up to m + 1 bytes, each at most m, and in a text that is empty, too: refused are all but the arrangements. */
+static void test_every_sequence(bool quick)
+{
+    static const char *const patterns[] = {"a", "ab", "aba", "aabb"};
+    static const size_t arrangements[] = {1, 2, 6, 24};
+    uint8_t *text = lend_bytes("aabbabaabb", 10), order[5];
+    for (size_t i = 0; i < (quick ? 3 : sizeof patterns / sizeof *patterns); i++) {
+        poqewan_pattern pattern = prepared(patterns[i]);
+        size_t m = pattern.len, accepted = 0;
+        for (size_t len = 0; len <= m + 1; len++)
+            for (size_t word = 0; word < words_of(len, m + 1); word++) {
+                put_word(order, len, m + 1, word);
+                for (size_t p = 0; p < len; p++)
+                    order[p] = (uint8_t)(order[p] - 'a');
+                size_t p = 0;
+                while (p < m && how_often((uint8_t)p, order, len) == 1)
+                    p++;
+                if (len == m && p == m) {
+                    check_ordered(&pattern, order, text, 10, UINT64_MAX, 10);
+                    accepted++;
+                } else {
+                    check_refused_order(&pattern, order, len, text, 10, POQEWAN_FALSE_ORDER);
+                    check_refused_order(&pattern, order, len, NULL, 0, POQEWAN_FALSE_ORDER);
+                }
+            }
+        CHECK(accepted == arrangements[i]);
+    }
+    free(text);
+}
+
+/* Numbers of bytes other than m, also such as are m in their lowest byte or their lower half; and at each rank a place that stands
+   elsewhere, a place just past the last, and others past it. */
+static void test_false_orders(void)
+{
+    static const size_t lengths[] = {1, 2, 3, 16, AROUND(64), 128, 255, 256};
+    uint8_t *text = lend(600), order[POQEWAN_LONGEST_PATTERN], *longer = lend(65536 + POQEWAN_LONGEST_PATTERN);
+    random_letters(text, 600, 2);
+    for (size_t i = 0; i < sizeof lengths / sizeof *lengths; i++) {
+        size_t m = lengths[i], numbers[] = {0, 1, m - 1, m + 1, 2 * m, m + 256, m + 65536};
+        poqewan_pattern pattern = prepare(text, m, POQEWAN_SCRATCH, 0).pattern;
+        random_order(order, m);
+        check_ordered(&pattern, order, text, 600, UINT64_MAX, 600);
+        for (size_t at = 0; at < 65536 + m; at++)
+            longer[at] = order[at % m];
+        for (size_t j = 0; j < sizeof numbers / sizeof *numbers; j++)
+            if (numbers[j] != m)
+                check_refused_order(&pattern, longer, numbers[j], text, 600, POQEWAN_FALSE_ORDER);
+        for (size_t rank = 0; rank < m; rank++) {
+            uint8_t place = order[rank];
+            size_t others[] = {order[(rank + 1) % m], order[random_below(m)], m, m + 1 + random_below(256), 255};
+            for (size_t j = 0; j < sizeof others / sizeof *others; j++)
+                if (others[j] < POQEWAN_LONGEST_PATTERN && others[j] != place) {
+                    order[rank] = (uint8_t)others[j];
+                    check_refused_order(&pattern, order, m, text, 600, POQEWAN_FALSE_ORDER);
+                }
+            order[rank] = place;
+        }
+        check_ordered(&pattern, order, text, 600, UINT64_MAX, 600);
+    }
+    /* The sum of the places, and that of their squares, are those of an arrangement. */
+    static const uint8_t same_sums[] = {1, 2, 3, 1, 2, 6, 6};
+    poqewan_pattern pattern = prepare(text, sizeof same_sums, POQEWAN_SCRATCH, 0).pattern;
+    check_refused_order(&pattern, same_sums, sizeof same_sums, text, 600, POQEWAN_FALSE_ORDER);
+    free(longer);
+    free(text);
+}
+
+/* Every choice of the three conditions, with orders that are short by one byte, long by one, empty, with a place twice, and with
+   one that is none: the first condition, in the order of the tests, is what is told. In a^n each window of ab has one comparison
+   from right to left. */
+static void test_order_of_ordered_tests(void)
+{
+    enum { IS_FALSE = 1, NO_ORDER = 2, IS_LONG = 4, ALL = 7 };
+    static const uint32_t refusals[] = {4, 16, 5};
+    static const struct {
+        size_t len;
+        uint8_t bytes[3];
+    } orders[] = {{1, {1}}, {3, {1, 0, 2}}, {0, {0}}, {2, {1, 1}}, {2, {1, 2}}};
+    const uint8_t right[] = {1, 0};
+    poqewan_pattern pattern = prepared("ab"), wrong = pattern;
+    wrong.noholes++;
+    for (int is_long = 0; is_long <= IS_LONG; is_long += IS_LONG) {
+        size_t n = is_long ? POQEWAN_LONGEST_TEXT + 1 : 5;
+        uint8_t *text = lend(n);
+        memset(text, 'a', n);
+        for (int chosen = 0; chosen <= ALL; chosen++) {
+            if ((chosen & IS_LONG) != is_long)
+                continue;
+            uint32_t refusal = 0;
+            for (int i = 2; i >= 0; i--)
+                if (chosen & 1 << i)
+                    refusal = refusals[i];
+            const poqewan_pattern *asked = chosen & IS_FALSE ? &wrong : &pattern;
+            if (refusal == 0)
+                CHECK(is_report(check_ordered(asked, right, text, n, UINT64_MAX, 4), POQEWAN_DONE, 0,
+                                (struct counts){n - 1, n - 1, 0}, 0));
+            else if (chosen & NO_ORDER)
+                for (size_t i = 0; i < sizeof orders / sizeof *orders; i++)
+                    check_refused_order(asked, orders[i].bytes, orders[i].len, text, n, refusal);
+            else
+                check_refused_order(asked, right, 2, text, n, refusal);
+        }
+        free(text);
+    }
+}
+
+/* Positions and windows past 2^16: aa in a^n is compared at two places in each window. And a count past it, with the longest
+   pattern: a^255 b from left to right, all places in each window; from right to left one. */
+static void test_orders_past_16_bits(void)
+{
+    const size_t n = 65536 + 300, m = POQEWAN_LONGEST_PATTERN, windows = 1000;
+    const uint8_t right_to_left[] = {1, 0};
+    uint8_t *text = lend(n), order[POQEWAN_LONGEST_PATTERN];
+    memset(text, 'a', n);
+    poqewan_pattern pattern = prepared("aa");
+    poqewan_report r = check_ordered(&pattern, right_to_left, text, n, UINT64_MAX, n - 1);
+    CHECK(is_report(r, POQEWAN_DONE, 0, (struct counts){2 * n - 2, 0, 2 * n - 2}, n - 1));
+    r = check_ordered(&pattern, right_to_left, text, n, UINT64_MAX, n - 2);
+    CHECK(is_report(r, POQEWAN_FULL, n - 2, (struct counts){2 * n - 2, 0, 2 * n - 2}, n - 2));
+    r = check_ordered(&pattern, right_to_left, text, n, 2 * n - 3, n - 1);
+    CHECK(is_report(r, POQEWAN_SPENT, n - 2, (struct counts){2 * n - 3, 0, 2 * n - 3}, n - 2));
+    text[m - 1] = 'b';
+    pattern = prepare(text, m, POQEWAN_SCRATCH, 0).pattern;
+    text[m - 1] = 'a';
+    r = check_ordered(&pattern, own, text, m - 1 + windows, UINT64_MAX, 0);
+    CHECK(is_report(r, POQEWAN_DONE, 0, (struct counts){windows * m, windows, windows * (m - 1)}, 0));
+    fill_order(order, &pattern, DESCENDING);
+    r = check_ordered(&pattern, order, text, m - 1 + windows, UINT64_MAX, 0);
+    CHECK(is_report(r, POQEWAN_DONE, 0, (struct counts){windows, windows, 0}, 0));
+    free(text);
+}
+
+/* A text of the greatest length is accepted, and an occurrence in its last window is found: from left to right each window has two
+   comparisons, and from right to left one, but for the last. A quick run goes only as far as a cap. */
+static void test_orders_of_longest_text(bool quick)
+{
+    const size_t n = POQEWAN_LONGEST_TEXT;
+    const uint8_t right_to_left[] = {1, 0};
+    poqewan_pattern pattern = prepared("ab");
+    uint8_t *text = lend(n);
+    uint32_t *list = lend_list(1);
+    memset(text, 'a', n);
+    text[n - 1] = 'b';
+    poqewan_report r = poqewan_ordered(pattern, own, 2, text, n, 5, list, 1);
+    CHECK(is_report(r, POQEWAN_SPENT, 2, (struct counts){5, 2, 3}, 0));
+    CHECK(unwritten(list, 0, 1));
+    for (int i = 0; i < (quick ? 0 : 2); i++) {
+        r = poqewan_ordered(pattern, i == 0 ? own : right_to_left, 2, text, n, UINT64_MAX, list, 1);
+        CHECK(is_report(r, POQEWAN_DONE, 0, (struct counts){i == 0 ? 2 * n - 2 : n, n - 1, i == 0 ? n - 1 : 1}, 1));
+        CHECK(list[0] == n - 2);
+    }
     free(list);
     free(text);
 }
@@ -2398,6 +2986,18 @@ int main(int argc, char **argv)
     test_lengths_past_16_bits();
     if (!quick)
         test_lengths_of_longest_text();
+    test_worked_orders();
+    test_limits_of_orders(quick);
+    test_zero_in_text_of_orders();
+    test_orders_of_each_value();
+    test_all_orders(quick);
+    test_column_of_each_place_in_orders(quick);
+    test_random_orders(quick ? 128 : 1024);
+    test_every_sequence(quick);
+    test_false_orders();
+    test_order_of_ordered_tests();
+    test_orders_past_16_bits();
+    test_orders_of_longest_text(quick);
     test_worked_archive();
     test_worked_records_in_archives();
     test_layouts();

@@ -5,7 +5,7 @@ use mathlib.Core.List.{List}
 use native.Mathlib.Omega.{arith}
 use lib.ListN.{length, getD}
 use Rattle.words.specs.Numbers.{tabulate}
-use Rattle.words.specs.Tables.{noholes, order, place, shift, next}
+use Rattle.words.specs.Tables.{nohole, noholes, order, place, shift, next}
 use Rattle.words.proofs.Tabulate.{length-tabulate}
 use Rattle.words.proofs.Ranks.{length-order}
 use Rattle.words.specs.Holds.{Lacks}
@@ -13,12 +13,14 @@ use Rattle.intake.specs.Sizes.{longestPattern, scratchSize}
 use Rattle.intake.specs.Outcomes.{outcomeOf, Usable}
 use Rattle.intake.specs.declared.Outcome.the-variants.{Ready}
 use Rattle.intake.proofs.Outcomes.{ready-is}
+use Rattle.ones.specs.Marks.{marked}
 use Rattle.pattern.specs.Sizes.{ranks}
 use Rattle.pattern.specs.Lists.{padded}
 use Rattle.pattern.specs.Built.{patternWith, patternOf}
 use Rattle.checked.specs.Check.{preparedAgain, IsPrepared}
 use Rattle.pattern.specs.Letters.{ownBytes, wordOf}
 use Rattle.pattern.specs.declared.Pattern.{Pattern}
+use Rattle.pattern.proofs.Bits.{marked-nohole}
 use Rattle.pattern.proofs.Letters.{length-word}
 use Rattle.pattern.proofs.Lists.{length-padded, padded-at, padded-tabulate-at}
 use Rattle.preparation.specs.declared.Prepared.{Prepared}
@@ -38,6 +40,7 @@ pub record Fields (p : Pattern) : Type 0 where
   pub place-at : (i : ℕ) → i < p .len → getD (p .order) i 0 ≡ place (wordOf p) i
   pub shift-at : (i : ℕ) → i ≤ p .len → getD (p .shift) i 0 ≡ shift (wordOf p) i
   pub next-at : (i : ℕ) → i ≤ p .len → getD (p .next) i 0 ≡ next (wordOf p) i
+  pub marked-at : (q : ℕ) → q < longestPattern → marked (p .marks) q ≡ nohole (wordOf p) q
 
 -- A prepared pattern is the pattern of its own bytes and classes, which were not refused.
 prepared-is : (p : Pattern) → IsPrepared p → (outcomeOf (ownBytes p) (p .classes) scratchSize ≡ Ready) × (p ≡ patternOf (ownBytes p) (p .classes))
@@ -82,4 +85,5 @@ fields-of p G =
       place-at = λ i l. ap (λ (x : List ℕ). getD x i 0) orders ∙ padded-at longestPattern (order w) i (omega (arith, length-order w));
       shift-at = λ i l. shifts .1 i (omega arith);
       next-at = λ i l. nexts .1 i (omega arith);
+      marked-at = λ q l. ap (λ (r : Pattern). marked (r .marks) q) is ∙ marked-nohole w q l;
     }

@@ -6,7 +6,7 @@ use native.Mathlib.Nat.{zero-add}
 use native.Mathlib.Numerals.{add-one}
 use native.Mathlib.Omega.{arith}
 use lib.ListN.{length, take, drop, set, length-append, length-drop}
-use lib.Seq.{paste, paste-zero, paste-suc, length-paste, take-all, take-at}
+use lib.Seq.{paste, paste-zero, paste-suc, length-paste, length-take-le, take-all, take-at}
 use borrow.Author.Tests.{eq-eqb, ne-eqb, le-leb, lt-leb}
 use Rattle.words.specs.Tables.{letter}
 use Rattle.classes.specs.Classes.{classCount, classOf, through, lettersIn}
@@ -58,3 +58,12 @@ module _ (w c lent : List ℕ) where
     pub all-put : length c ≡ classCount → i ≡ length w → l ≡ lettersIn w c lent
     all-put size end =
         P ∙ rw (end, take-all (length w) (through c w) (omega (arith, length-through c w)), zero-add) (sym (letters-are room size))
+
+-- The letters of the first m bytes, which a reader finds first.
+pub first-letters : (bytes classes lent : List ℕ) (m : ℕ) → m ≤ length bytes → m ≤ length lent → length classes ≡ classCount
+    → {letters : List ℕ} → letters ≡ lettersIn (take m bytes) classes lent
+    → (length letters ≡ length lent) × (take m letters ≡ through classes (take m bytes))
+first-letters bytes classes lent m upto room size e =
+    let taken : length (take m bytes) ≡ m = length-take-le m bytes upto in
+    let both = letters-read (take m bytes) classes lent (omega arith) size e in
+    (both .0, rw taken at (both .1))

@@ -4,12 +4,12 @@ use mathlib.Core.Path.{_≡_, refl, sym, _∙_}
 use mathlib.Core.Bool.{true, false}
 use mathlib.Core.List.{List, _++_}
 use native.Mathlib.Omega.{arith}
-use lib.ListN.{length, take, drop, length-append, length-drop, take-append-drop, List·getD-append}
-use lib.Seq.{length-take-le, getD-take, drop-at}
+use lib.ListN.{length, drop}
+use lib.Seq.{drop-at}
 use borrow.Author.Tests.{le-leb, lt-leb, lt-ltb, le-ltb}
 use Rattle.words.specs.Numbers.{tabulate}
 use Rattle.words.specs.Tables.{hmax}
-use Rattle.words.proofs.Tabulate.{length-tabulate, tabulate-at, by-entries}
+use Rattle.words.proofs.Tabulate.{length-tabulate, begins-with, begin-at, begin-length}
 use Rattle.hmax.specs.FastMethod.{comparisons, FewCompared}
 use Rattle.hmax.specs.Table.{entryBound, fits, tableAfter, comparedFor, HasHmax}
 use Rattle.hmax.specs.Internal.Steps.{Room, Fills}
@@ -39,11 +39,7 @@ module _ (w s : List ℕ) where
 
     -- A table by its entries and what follows them.
     whole : (t : List ℕ) → length t ≡ length s → HasHmax w t (suc (length w)) → drop (suc (length w)) t ≡ drop (suc (length w)) s → t ≡ tableAfter w s
-    whole t size known rest =
-        let n = suc (length w) in
-        let front : take n t ≡ tabulate n (hmax w) =
-        by-entries n (hmax w) (take n t) (length-take-le n t (omega (arith, room .entries))) (λ i l. getD-take n t i 0 l ∙ known i l) in
-        sym (take-append-drop n t) ∙ rw (front, rest) (sym after-fitting)
+    whole t size known rest = begins-with (suc (length w)) (hmax w) s t (omega (arith, room .entries)) known rest ∙ sym after-fitting
 
     pub filled : {t : List ℕ} {r : ℕ} → length t ≡ length s → Fills w s t r → Ensured w s t r
     filled size F =
@@ -52,19 +48,15 @@ module _ (w s : List ℕ) where
 
     -- So the entries are hmax,
     pub after-known : {t : List ℕ} → t ≡ tableAfter w s → HasHmax w t (suc (length w))
-    after-known e k l =
-        let n = suc (length w) in
-        rw (e, after-fitting)
-        (List·getD-append (tabulate n (hmax w)) (drop n s) 0 k (omega (arith, length-tabulate n (hmax w))) ∙ tabulate-at n (hmax w) k l)
+    after-known e k l = rw (e, after-fitting) (begin-at (suc (length w)) (hmax w) s k l)
 
     -- and the others are kept.
     pub after-kept : {t : List ℕ} → t ≡ tableAfter w s → KeptFrom (suc (length w)) s t
     after-kept e =
         let n = suc (length w) in
-        let size = length-tabulate n (hmax w) in
         rw (e, after-fitting) record {
-          rest = drop-at (tabulate n (hmax w)) (drop n s) n size;
-          size = length-append (tabulate n (hmax w)) (drop n s) ∙ omega (arith, size, length-drop n s, room .entries);
+          rest = drop-at (tabulate n (hmax w)) (drop n s) n (length-tabulate n (hmax w));
+          size = begin-length n (hmax w) s (room .entries);
         }
 
     pub after-compared : {r : ℕ} → r ≡ comparedFor w (length s) → r ≡ comparisons w

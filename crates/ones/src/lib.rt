@@ -54,3 +54,13 @@ pub fn ones_below(marks: &[u64; WORDS], whole: &[u16; WORDS + 1], p: usize) -> u
     let i = p / BITS;
     wide(whole[i]) + remainder(marks[i], p % BITS)
 }
+
+// Whether a place is marked. None past the last is.
+pub fn is_marked(marks: &[u64; WORDS], place: usize) -> bool
+    ensures answer { λ r. ⌜ r ≡ marked (now (marks .entry)) place ⌝ }
+{
+    if PLACES <= place {
+        return false;
+    }
+    (marks[place / BITS] >> (place % BITS)) & 1 == 1
+}

@@ -16,6 +16,7 @@ ghost use lib.ListN.{length};
 ghost use Rattle.carried.specs.Carried.{carriedPreparation, carried, reportIn, carriedFirst, firstIn, carriedLengths};
 ghost use Rattle.charge.specs.Charged.{charged};
 ghost use Rattle.classes.specs.Classes.{identity, identityIn};
+ghost use Rattle.custom.specs.Custom.{custom};
 ghost use Rattle.first.specs.Answer.{firstBy, plainFirstBy};
 ghost use Rattle.first.specs.Promise.{FirstOfFull, FirstInBytes, FirstUnderCeiling, FirstCoversNoZero};
 ghost use Rattle.intake.specs.Sizes.{scratchSize};
@@ -23,6 +24,7 @@ ghost use Rattle.intake.specs.Outcomes.{Preparable, Usable};
 ghost use Rattle.hmax.specs.FastMethod.{FewCompared};
 ghost use Rattle.lengths.specs.Answer.{answerOf, listOf, plainAnswerOf, plainListOf};
 ghost use Rattle.lengths.specs.Promise.{EachLongest, WholeWhere};
+ghost use Rattle.ordered.specs.Answer as orders;
 ghost use Rattle.pattern.specs.Letters.{ownBytes, wordOf, textOf};
 ghost use Rattle.preparation.specs.Prepared.{prepared, plainPrepared, scratchAfter, plainScratch, Cleared};
 ghost use Rattle.prefixes.specs.Promise.{FewFor, AsKmp};
@@ -111,6 +113,30 @@ pub extern "C" fn poqewan_kmp(
     ensures plain { λ r. ⌜ (pattern .classes ≡ identity → (r ≡ carried (plainAnswerBy kmp pattern (now (text .entry)) cap (length (now (positions .entry))))) × (now (positions .exit) ≡ plainListBy kmp pattern (now (text .entry)) cap (now (positions .entry)))) ⌝ }
 {
     carry(search::kmp(pattern, text, cap, positions))
+}
+
+// Searches a text in an order of the caller's own, with at most `cap` comparisons: entry i is the place of the pattern that rank i compares. Report,
+// endings and list are as above. Refused, in this order, with the list unchanged: a pattern that is not what preparation gives for its own length,
+// bytes and classes (4), an order that is not an arrangement of the pattern's places (16), a text that is longer than the longest (5). Run to its
+// end, it lists what `poqewan_colussi` lists. The count has no ceiling.
+#[no_mangle]
+pub extern "C" fn poqewan_ordered<'a>(
+    pattern: Pattern,
+    order: &'a [u8],
+    text: &'a [u8],
+    cap: u64,
+    positions: &mut [u32],
+) -> SearchReport
+    ensures answer { λ r. ⌜ r ≡ carried (orders.answerOf pattern (now (order .entry)) (now (text .entry)) cap (length (now (positions .entry)))) ⌝ }
+    ensures list { λ r. ⌜ now (positions .exit) ≡ orders.listOf pattern (now (order .entry)) (now (text .entry)) cap (now (positions .entry)) ⌝ }
+    ensures accurate { λ r. ⌜ (r .refusal ≡ 0 → Located (custom (now (order .entry))) (wordOf pattern) (textOf pattern (now (text .entry))) cap (now (positions .exit)) (reportIn r)) ⌝ }
+    ensures classed { λ r. ⌜ (r .refusal ≡ 0 → ListedBy (pattern .classes) (ownBytes pattern) (now (text .entry)) (now (positions .exit)) (reportIn r)) ⌝ }
+    ensures columns { λ r. ⌜ (r .refusal ≡ 0 → Columns (wordOf pattern) (custom (now (order .entry)) (wordOf pattern) (textOf pattern (now (text .entry))) cap (length (now (positions .entry))) .last .made) (reportIn r)) ⌝ }
+    ensures same { λ r. ⌜ (r .refusal ≡ 0 → AsColussi (wordOf pattern) (textOf pattern (now (text .entry))) (now (positions .exit)) (reportIn r)) ⌝ }
+    ensures zeros { λ r. ⌜ (r .refusal ≡ 0 → NoZeroCovered (length (wordOf pattern)) (now (text .entry)) (now (positions .exit)) (reportIn r)) ⌝ }
+    ensures plain { λ r. ⌜ (pattern .classes ≡ identity → (r ≡ carried (orders.plainAnswerOf pattern (now (order .entry)) (now (text .entry)) cap (length (now (positions .entry))))) × (now (positions .exit) ≡ orders.plainListOf pattern (now (order .entry)) (now (text .entry)) cap (now (positions .entry)))) ⌝ }
+{
+    carry(ordered::ordered(pattern, order, text, cap, positions))
 }
 
 // Searches a text in Colussi's order, without a cap, up to the first position where the pattern occurs. Refused, in this order: a pattern that

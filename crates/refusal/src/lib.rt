@@ -30,6 +30,8 @@ pub enum Refusal {
     ClassesNot256,
     // C-19: another value shares the class of 0
     ZeroClassShared,
+    // C-20: the bytes of a house order aren't m different places
+    FalseOrder,
 }
 
 impl Refusal {
@@ -51,6 +53,7 @@ impl Refusal {
             Refusal::ShortLengths => 11,
             Refusal::ClassesNot256 => 14,
             Refusal::ZeroClassShared => 15,
+            Refusal::FalseOrder => 16,
         }
     }
 }

@@ -32,7 +32,7 @@ use Rattle.search.proofs.Classes.{occurs-by, occurs-through, covers-no-
 use Rattle.search.proofs.Answers.{Answers, plain, promised}
 
 -- The list begins with the positions found.
-begins-with-found : (w : List ℕ) (s : End) (lent : List ℕ) → take (reportOf w s .written) (filled s lent) ≡ s .last .found
+pub begins-with-found : (w : List ℕ) (s : End) (lent : List ℕ) → take (reportOf w s .written) (filled s lent) ≡ s .last .found
 unfolding reportOf filled
 begins-with-found w s lent = take-append-seam (s .last .found) (drop (length (s .last .found)) lent)
 
@@ -60,7 +60,7 @@ module _ (search : Search) (w t : List ℕ) (cap : ℕ) (lent : List ℕ) where
       }
 
 -- Document 02, C-16: the columns.
-in-columns : (w : List ℕ) (s : End) → Columns w (s .last .made) (reportOf w s)
+pub in-columns : (w : List ℕ) (s : End) → Columns w (s .last .made) (reportOf w s)
 unfolding reportOf
 in-columns w s = record { noholes = refl; holes = refl; sum = sym (columns-sum w (s .last .made)) }
 
@@ -87,7 +87,7 @@ module _ (p : Pattern) (t : List ℕ) where
 
 module _ (p : Pattern) (t : List ℕ) (cap : ℕ) (lent : List ℕ) where
   -- No occurrence that a search lists covers a 0.
-  no-zero-covered : (search : Search) → IsAdmitted p (length t) → Finds search (wordOf p) (textOf p t) cap (length lent)
+  pub no-zero-covered : (search : Search) → IsAdmitted p (length t) → Finds search (wordOf p) (textOf p t) cap (length lent)
       → NoZeroCovered (length (wordOf p)) t (filled (search (wordOf p) (textOf p t) cap (length lent)) lent)
       (reportOf (wordOf p) (search (wordOf p) (textOf p t) cap (length lent)))
   unfolding reportOf filled
@@ -96,7 +96,7 @@ module _ (p : Pattern) (t : List ℕ) (cap : ℕ) (lent : List ℕ) where
       rw (List·getD-append found (drop (length found) lent) 0 i l) (occurrence-covers-no-zero p t (getD found i 0) (I .prepared) (F .lists .occur i l))
 
   -- What it lists, in terms of bytes.
-  listed-by : (search : Search) → Finds search (wordOf p) (textOf p t) cap (length lent)
+  pub listed-by : (search : Search) → Finds search (wordOf p) (textOf p t) cap (length lent)
       → ListedBy (p .classes) (ownBytes p) t (filled (search (wordOf p) (textOf p t) cap (length lent)) lent)
       (reportOf (wordOf p) (search (wordOf p) (textOf p t) cap (length lent)))
   unfolding reportOf filled

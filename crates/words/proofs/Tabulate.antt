@@ -1,11 +1,11 @@
--- A function's values as a list: what stands at each index, and a list by its entries. Assumes nothing.
+-- A function's values as a list: what stands at each index, a list by its entries, and one that begins with them. Assumes nothing.
 use Prim.Native.Nat.{ℕ, zero, suc, _≤_, _<_}
 use mathlib.Core.Path.{_≡_, refl, sym, ap, _∙_}
 use mathlib.Core.Logic.{⊎-elim}
-use mathlib.Core.List.{List, [], _∷_}
+use mathlib.Core.List.{List, [], _∷_, _++_}
 use native.Mathlib.Omega.{arith}
-use lib.ListN.{length, getD, length-append, List·getD-append}
-use lib.Seq.{getD-append-seam, ext-getD}
+use lib.ListN.{length, getD, take, drop, length-append, length-drop, take-append-drop, List·getD-append}
+use lib.Seq.{getD-append-seam, ext-getD, length-take-le, getD-take}
 use Rattle.words.specs.Numbers.{tabulate}
 use Rattle.words.proofs.Cases.{less-or}
 
@@ -31,3 +31,20 @@ by-entries n f l size at =
 
 pub entries-all : (l : List ℕ) → tabulate (length l) (λ i. getD l i 0) ≡ l
 entries-all l = sym (by-entries (length l) (λ i. getD l i 0) l refl (λ i h. refl))
+
+-- ---- A list that begins with them
+
+module _ (n : ℕ) (f : ℕ → ℕ) (s : List ℕ) where
+  -- By its entries and what follows them.
+  pub begins-with : (t : List ℕ) → n ≤ length t → ((i : ℕ) → i < n → getD t i 0 ≡ f i) → drop n t ≡ drop n s → t ≡ tabulate n f ++ drop n s
+  begins-with t room at rest =
+      let front : take n t ≡ tabulate n f = by-entries n f (take n t) (length-take-le n t room) (λ i l. getD-take n t i 0 l ∙ at i l) in
+      sym (take-append-drop n t) ∙ rw (front, rest) refl
+
+  -- Its entries,
+  pub begin-at : (i : ℕ) → i < n → getD (tabulate n f ++ drop n s) i 0 ≡ f i
+  begin-at i l = List·getD-append (tabulate n f) (drop n s) 0 i (omega (arith, length-tabulate n f)) ∙ tabulate-at n f i l
+
+  -- and its length.
+  pub begin-length : n ≤ length s → length (tabulate n f ++ drop n s) ≡ length s
+  begin-length room = length-append (tabulate n f) (drop n s) ∙ omega (arith, length-tabulate n f, length-drop n s)

@@ -5,24 +5,27 @@
 pub mod archives;
 pub mod classes;
 pub mod lengths;
+pub mod orders;
 pub mod worked;
 
+use crate::oracle::ordered::CustomOrder;
 use crate::oracle::{self, Listed, Tables, CLASSES};
 use archives::{assert_record_refused, packed};
 use lengths::assert_lengths_refused;
+use orders::{assert_order_refused, left_to_right};
 use poqewan::{Ending, First, Pattern, Preparation, Refusal, Report, SCRATCH};
 
 /// What lists hold before a search. No text is long enough to have such a position.
 pub const UNWRITTEN: u32 = 0xA5A5_A5A5;
 
 /// How many searches are checked for each one that is asked again of a record, and with it for the
-/// prefix lengths. It is odd, so both methods have their turn.
+/// prefix lengths and in two orders more. It is odd, so both methods have their turn.
 const EVERY: usize = 7;
 
 /// The longest text for which that is done.
 const SHORT: usize = 1_000;
 
-/// The two searches.
+/// The searches of Colussi and of Knuth, Morris and Pratt.
 #[derive(Clone, Copy, Debug, PartialEq, Eq)]
 pub enum Method {
     Colussi,
@@ -100,6 +103,8 @@ pub struct Trial {
     by_rules: Listed,
     /// How many searches were checked.
     searches: usize,
+    /// Two orders to search in, once they were asked for.
+    orders: Vec<CustomOrder>,
 }
 
 impl Trial {
@@ -124,6 +129,7 @@ impl Trial {
             list: Vec::new(),
             by_rules: Listed::default(),
             searches: 0,
+            orders: Vec::new(),
         }
     }
 
@@ -144,7 +150,8 @@ impl Trial {
 
     /// Runs both searches and checks all that is promised of them. Where Colussi's is run to its
     /// end, the answer for the first position is checked too. Some of the searches are asked again
-    /// of the text as a record of an archive, and then the prefix lengths are checked as well.
+    /// of the text as a record of an archive, and then the prefix lengths and the search in two
+    /// orders more are checked as well.
     pub fn check(&mut self, text: &[u8], cap: u64, list_len: usize) -> [Report; 2] {
         let occurrences = self.occurrences(text);
         Method::BOTH.map(|method| self.check_one(method, text, cap, list_len, &occurrences))
@@ -167,13 +174,43 @@ impl Trial {
         let answer = method.run(&self.pattern, text, cap, &mut self.list);
         let expected = method.by_rules(&self.tables, text, cap, list_len, &mut self.by_rules);
 
-        let bytes = &self.tables.bytes;
         let case = || {
             let case = case(&self.tables, text);
             format!("{method:?}, cap {cap}, list of {list_len}, {case}")
         };
+        self.assert_promised(answer, &expected, &self.list, text, occurrences, &case);
+        let m = self.tables.bytes.len();
         assert!(
-            answer == Ok(expected),
+            method.keeps_its_ceiling(m, text.len(), expected.ending, expected.count),
+            "{}: count {} is above the ceiling",
+            case(),
+            expected.count
+        );
+        if (method, expected.ending) == (Method::Colussi, Ending::Done) {
+            self.check_first_of(text, &expected, occurrences);
+        }
+        self.searches += 1;
+        if self.searches % EVERY == 0 && text.len() <= SHORT {
+            self.check_as_record(method, text, cap, &expected);
+            self.check_lengths(text);
+            self.check_in_two_orders(text, cap, list_len);
+        }
+        expected
+    }
+
+    /// What is promised of every search, where the rules have just given this report of it, and its
+    /// list.
+    fn assert_promised(
+        &self,
+        answer: Result<Report, Refusal>,
+        expected: &Report,
+        list: &[u32],
+        text: &[u8],
+        occurrences: &[u32],
+        case: &dyn Fn() -> String,
+    ) {
+        assert!(
+            answer == Ok(*expected),
             "{}: {answer:?}, by the rules {expected:?}",
             case()
         );
@@ -182,7 +219,7 @@ impl Trial {
             "{}: the columns of {expected:?} have another sum than its count",
             case()
         );
-        let (positions, rest) = self.list.split_at(expected.written);
+        let (positions, rest) = list.split_at(expected.written);
         assert!(
             positions == self.by_rules.positions,
             "{}: positions are not those by the rules",
@@ -198,28 +235,12 @@ impl Trial {
             "{}: positions are not the occurrences",
             case()
         );
+        let m = self.tables.bytes.len();
         assert!(
-            positions
-                .iter()
-                .all(|&b| covers_no_zero(text, b, bytes.len())),
+            positions.iter().all(|&b| covers_no_zero(text, b, m)),
             "{}: an occurrence covers a byte 0",
             case()
         );
-        assert!(
-            method.keeps_its_ceiling(bytes.len(), text.len(), expected.ending, expected.count),
-            "{}: count {} is above the ceiling",
-            case(),
-            expected.count
-        );
-        if (method, expected.ending) == (Method::Colussi, Ending::Done) {
-            self.check_first_of(text, &expected, occurrences);
-        }
-        self.searches += 1;
-        if self.searches % EVERY == 0 && text.len() <= SHORT {
-            self.check_as_record(method, text, cap, &expected);
-            self.check_lengths(text);
-        }
-        expected
     }
 
     /// The same search of the text as a record of an archive, where the list still holds what the
@@ -373,12 +394,18 @@ pub fn check_value(value: &Pattern) -> bool {
 
 /// All searches must refuse so and leave the list as it is. So must those of a record, with the
 /// text for an archive: the pattern is tested first, and then the length. So must the call for prefix
-/// lengths, also with a list that is too short: that is tested last.
+/// lengths, also with a list that is too short: that is tested last. So must the search in an order
+/// of its own, for a false pattern also with an order that is none: that is tested second.
 pub fn assert_refused(pattern: &Pattern, text: &[u8], why: Refusal) {
     let answer = poqewan::find_first(pattern, text);
     assert_eq!(answer, Err(why), "the first position of {pattern:?}");
     for list_len in [0, text.len().min(SHORT)] {
         assert_lengths_refused(pattern, text, list_len, why);
+    }
+    let places = left_to_right(pattern.len.min(oracle::LONGEST_PATTERN));
+    assert_order_refused(pattern, &places, text, why);
+    if why == Refusal::FalsePattern {
+        assert_order_refused(pattern, &[0, 0], text, why);
     }
     for method in Method::BOTH {
         let mut list = [UNWRITTEN; 8];

@@ -6,6 +6,7 @@
 
 pub mod archive;
 pub mod lengths;
+pub mod ordered;
 
 use poqewan::{Ending, First, Pattern, Refusal, Report};
 

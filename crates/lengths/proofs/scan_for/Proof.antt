@@ -6,8 +6,10 @@ use lib.ListN.{length, take}
 use lib.Seq.{length-take-le}
 use borrow.Author.Needs.{needs}
 use Rattle.classes.specs.Classes.{through}
+use Rattle.classes.proofs.Letters.{first-letters}
+use Rattle.intake.specs.Sizes.{longestPattern}
 use Rattle.lengths.specs.Internal.Steps.{Tables}
-use Rattle.lengths.proofs.Lent.{lent-size, lent-word, lent-tables}
+use Rattle.lengths.proofs.Lent.{lent-tables}
 use Rattle.lengths.proofs.scan_for.Statement.{statement}
 use Rattle.lengths.proofs.scan_for.Tie as tie
 
@@ -15,22 +17,17 @@ abbrev entry : tie.After-put-letters → tie.Start
 entry c = c .before .before .before .before .before .before .before
 
 -- The letters, as they were put: as many as there is room for, with those of the bytes first.
-size : (c : tie.After-put-letters) → entry c .args .m ≤ length (c .put-letters .last .1 .1 .0)
-size c =
-    let start = entry c in
-    omega (
-      arith,
-      lent-size (start .args .bytes .now) (start .args .classes .now) _ (start .args .m) (start .pre .0 .2) (start .pre .0 .1) (start .pre .0 .3)
-          (c .put-letters .ensures),
-      start .pre .0 .1,
-    )
-
-word : (c : tie.After-put-letters) →
+read : (c : tie.After-put-letters) →
     let args = entry c .args in
-    take (args .m) (c .put-letters .last .1 .1 .0) ≡ through (args .classes .now) (take (args .m) (args .bytes .now))
-word c =
+    let letters = c .put-letters .last .1 .1 .0 in
+    (length letters ≡ longestPattern) × (take (args .m) letters ≡ through (args .classes .now) (take (args .m) (args .bytes .now)))
+read c =
     let start = entry c in
-    lent-word (start .args .bytes .now) (start .args .classes .now) _ (start .args .m) (start .pre .0 .2) (start .pre .0 .1) (start .pre .0 .3) (c .put-letters .ensures)
+    first-letters (start .args .bytes .now) (start .args .classes .now) _ (start .args .m) (start .pre .0 .2) (start .pre .0 .1) (start .pre .0 .3)
+    (c .put-letters .ensures)
+
+size : (c : tie.After-put-letters) → entry c .args .m ≤ length (c .put-letters .last .1 .1 .0)
+size c = omega (arith, read c .0, entry c .pre .0 .1)
 
 abbrev put : tie.After-fill-hmax → tie.After-put-letters
 put c = c .before .before .before .before
@@ -51,7 +48,7 @@ returns : tie.Need-returns
 returns c =
     let scanned = c .before .before in
     let put = put (scanned .before .before .before .before .before) in
-    rw (word put) at (scanned .scan .ensures)
+    rw (read put .1) at (scanned .scan .ensures)
 
 pub scan-for-spec : {M : Type 1} → statement M
 scan-for-spec =
