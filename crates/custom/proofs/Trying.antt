@@ -11,6 +11,7 @@ use borrow.Author.Tests.{le-leb}
 use Rattle.words.specs.Tables.{letter}
 use Rattle.hmax.proofs.Stores.{after-store}
 use Rattle.custom.specs.Custom.{match-rules-out, mismatch-rules-out, present-rules-out, ruled-out, custom-shift}
+use Rattle.custom.specs.Table.{namedPlaces}
 use Rattle.custom.specs.Internal.{Passed}
 use Rattle.custom.proofs.Shifts.{match-allows, mismatch-allows, present-is, by-mismatch, by-match, by-nothing, shift-only}
 
@@ -36,10 +37,10 @@ module _ (w order : List ℕ) (i k p : ℕ) (rank : i < length w) (read : p ≡ 
 -- ---- What is known of each distance
 
 -- Nothing, at first.
-pub none-passed : (w order : List ℕ) → length w ≤ 256 → Passed w order (replicate 256 0)
+pub none-passed : (w order : List ℕ) → length w ≤ namedPlaces → Passed w order (replicate namedPlaces 0)
 none-passed w order short = record {
-  size = omega (arith, length-replicate {A = ℕ} 256 0);
-  allow = λ k j l g. absurd (omega (arith, getD-replicate {A = ℕ} 256 k 0 0 (omega arith)));
+  size = omega (arith, length-replicate {A = ℕ} namedPlaces 0);
+  allow = λ k j l g. absurd (omega (arith, getD-replicate {A = ℕ} namedPlaces k 0 0 (omega arith)));
 }
 
 -- Of distance k, that the first v ranks do not rule it out.
@@ -102,7 +103,7 @@ module _ (w order : List ℕ) (i n : ℕ) where
     }
 
     module _ {j : ℕ} (T : Tests passed k j) where
-      pub tests-more : match-rules-out w (getD order j 0) k ≡ false → j < i → i ≤ 256 → Tests passed k (j + 1)
+      pub tests-more : match-rules-out w (getD order j 0) k ≡ false → j < i → i ≤ namedPlaces → Tests passed k (j + 1)
       tests-more allows l short = record {
         tries = T .tries;
         inside = T .inside;

@@ -27,6 +27,7 @@ unfoldable pub earlier-rule-out : List ℕ → List ℕ → ℕ → ℕ → Bool
 unfolding some match-rules-out
 earlier-rule-out w order i k = some 0 i λ j. match-rules-out w (getD order j 0) k
 
+-- Once a window is left with rank i, one of the two rules k out.
 unfoldable pub ruled-out : List ℕ → List ℕ → ℕ → ℕ → Bool
 unfolding present-rules-out earlier-rule-out
 ruled-out w order i k = present-rules-out w order i k || earlier-rule-out w order i k

@@ -18,7 +18,7 @@ unfoldable pub new-place : ℕ → List ℕ → ℕ → Bool
 unfolding every
 new-place m order i = ltb (getD order i 0) m && every i λ j. not (eqb (getD order j 0) (getD order i 0))
 
--- The same as a test.
+-- So is each of the m entries, and there are no more: an arrangement, as a test.
 unfoldable pub arranged : ℕ → List ℕ → Bool
 unfolding every new-place
 arranged m order = eqb (length order) m && every m (new-place m order)

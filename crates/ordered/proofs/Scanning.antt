@@ -21,7 +21,7 @@ use Rattle.rules.proofs.Scans.{Scans, column-upto, scans-as, scans-start, scans
 use Rattle.ordered.specs.Internal.{noholes-among, Reaches, LentTables}
 use Rattle.ordered.proofs.Among.{among-none, among-more}
 
--- The scan stands at the begin of window b, with so much left of the cap and q comparisons made at noholes.
+-- The scan stands at rank 0 of window b, with so much left of the cap and q comparisons made at noholes.
 pub record InOrder (w order text : List ℕ) (cap : ℕ) (before after : List ℕ) (b left q k : ℕ) : Type 0 where
   pub within : left ≤ cap
   pub scans : Scans (nohole w) (custom-plan order w) w text cap before after b 0 0 (cap - left) q k

@@ -10,7 +10,7 @@ use Rattle.custom.specs.Custom.{custom-shift}
 use Rattle.intake.specs.Sizes.{longestPattern}
 use Rattle.ones.specs.Marks.{marked}
 
--- The first n + 1 entries tell how many of the first i places of an order are marked.
+-- Entry i, for each i up to n, tells how many of the first i places of an order are marked.
 abbrev pub MarkedAmong : List ℕ → List ℕ → List ℕ → ℕ → Type 0
 MarkedAmong order marks among n = (i : ℕ) → i ≤ n → getD among i 0 ≡ count i (λ j. marked marks (getD order j 0))
 
