@@ -6,7 +6,7 @@ mod oracle;
 
 use common::classes::{c_in_b, letters, one_but_0, Classes, Drawn};
 use common::orders::{arrangements, drawn_order, left_to_right, right_to_left};
-use common::worked::{LONG, NO_CAP};
+use common::worked::{windows_and_places, LONG, NO_CAP};
 use common::{
     changed, fibonacci, repeated, words, words_of_lengths, Method, Random, Trial, UNWRITTEN,
 };
@@ -126,15 +126,7 @@ impl Worked {
 
     /// The window and the place of each comparison.
     fn comparisons(&self) -> Vec<(usize, usize)> {
-        let words = self.compared.split_whitespace();
-        words
-            .flat_map(|word| {
-                let (window, places) = word.split_once(':').expect("a window and its places");
-                let window = window.parse().expect("a number");
-                let places = places.bytes();
-                places.map(move |digit| (window, usize::from(digit - b'0')))
-            })
-            .collect()
+        windows_and_places(self.compared)
     }
 
     /// The report with a cap and a list. The list has no entry for the first position past its end,

@@ -7,7 +7,7 @@ mod oracle;
 
 use common::classes::{c_in_b, letters, one_but_0, Classes, Drawn};
 use common::lengths::whole;
-use common::worked::NO_CAP;
+use common::worked::{windows_and_places, NO_CAP};
 use common::{
     changed, fibonacci, repeated, words, words_of_lengths, Method, Random, Trial, UNWRITTEN,
 };
@@ -113,15 +113,7 @@ const WORKED: [Worked; 54] = [
 impl Worked {
     /// The window and the place of each comparison.
     fn comparisons(&self) -> Vec<(usize, usize)> {
-        let words = self.compared.split_whitespace();
-        words
-            .flat_map(|word| {
-                let (window, places) = word.split_once(':').expect("a window and its places");
-                let window = window.parse().expect("a number");
-                let places = places.bytes();
-                places.map(move |digit| (window, usize::from(digit - b'0')))
-            })
-            .collect()
+        windows_and_places(self.compared)
     }
 }
 

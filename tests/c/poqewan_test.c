@@ -1658,6 +1658,15 @@ static void test_random_lengths(size_t rounds)
     CHECK(found > 0);
 }
 
+/* The refusal of the first of three conditions that is chosen, or 0. */
+static uint32_t first_chosen(int chosen, const uint32_t refusals[3])
+{
+    for (int i = 0; i < 3; i++)
+        if (chosen & 1 << i)
+            return refusals[i];
+    return 0;
+}
+
 /* Every choice of the three conditions, and lists that are short by one, by all but one, and by all entries: the first
    condition, in the order of the tests, is what is told. */
 static void test_order_of_lengths_tests(void)
@@ -1673,10 +1682,7 @@ static void test_order_of_lengths_tests(void)
         for (int chosen = 0; chosen <= ALL; chosen++) {
             if ((chosen & IS_LONG) != is_long)
                 continue;
-            uint32_t refusal = 0;
-            for (int i = 2; i >= 0; i--)
-                if (chosen & 1 << i)
-                    refusal = refusals[i];
+            uint32_t refusal = first_chosen(chosen, refusals);
             size_t too_few[] = {n - 1, 1, 0};
             for (size_t i = 0; i < (chosen & IS_SHORT ? 3 : 1); i++) {
                 size_t list_len = chosen & IS_SHORT ? too_few[i] : n;
@@ -2141,10 +2147,7 @@ static void test_order_of_ordered_tests(void)
         for (int chosen = 0; chosen <= ALL; chosen++) {
             if ((chosen & IS_LONG) != is_long)
                 continue;
-            uint32_t refusal = 0;
-            for (int i = 2; i >= 0; i--)
-                if (chosen & 1 << i)
-                    refusal = refusals[i];
+            uint32_t refusal = first_chosen(chosen, refusals);
             const poqewan_pattern *asked = chosen & IS_FALSE ? &wrong : &pattern;
             if (refusal == 0)
                 CHECK(is_report(check_ordered(asked, right, text, n, UINT64_MAX, 4), POQEWAN_DONE, 0,

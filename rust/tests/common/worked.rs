@@ -12,6 +12,20 @@ pub const LONG: usize = 16;
 /// A count, and its two columns: at noholes and at holes.
 pub type Counts = [u64; 3];
 
+/// Comparisons as they are written down: each word has a window and, behind the colon, a digit for each
+/// place that is compared in it.
+pub fn windows_and_places(compared: &str) -> Vec<(usize, usize)> {
+    let words = compared.split_whitespace();
+    words
+        .flat_map(|word| {
+            let (window, places) = word.split_once(':').expect("a window and its places");
+            let window = window.parse().expect("a number");
+            let places = places.bytes();
+            places.map(move |digit| (window, usize::from(digit - b'0')))
+        })
+        .collect()
+}
+
 /// A pattern by its classes, with a cap and a list, in a text. Both searches have the positions and
 /// the ending.
 pub struct Row {

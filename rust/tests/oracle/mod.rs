@@ -463,14 +463,9 @@ fn kmp_told(
                 return report(Ending::Spent(b), c, &columns, listed);
             }
             c += 1;
-            columns.compared(tables, i);
-            let equal = equal(&tables.classes, tables.bytes[i], text[b + i]);
-            tell(Comparison {
-                window: b,
-                place: i,
-                equal,
-            });
-            if equal {
+            let made = compare(tables, text, b, i, &mut columns);
+            tell(made);
+            if made.equal {
                 i += 1;
                 continue;
             }
@@ -480,6 +475,22 @@ fn kmp_told(
         i = i.saturating_sub(shift);
     }
     report(Ending::Done, c, &columns, listed)
+}
+
+/// Compares the letter at a place with the text's in window b.
+fn compare(
+    tables: &Tables,
+    text: &[u8],
+    b: usize,
+    place: usize,
+    columns: &mut Columns,
+) -> Comparison {
+    columns.compared(tables, place);
+    Comparison {
+        window: b,
+        place,
+        equal: equal(&tables.classes, tables.bytes[place], text[b + place]),
+    }
 }
 
 fn report(ending: Ending, count: u64, columns: &Columns, listed: &Listed) -> Report {

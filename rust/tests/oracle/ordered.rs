@@ -2,7 +2,7 @@
 //! house order a custom order.
 
 use super::lengths::LONGEST_RECORD;
-use super::{equal, report, Columns, Comparison, Listed, Tables};
+use super::{compare, equal, report, Columns, Comparison, Listed, Tables};
 use poqewan::{Ending, Refusal, Report};
 
 /// Whether bytes are m different places: there are m of them, each is below m, and no two are the
@@ -93,14 +93,9 @@ impl CustomOrder {
                     return report(Ending::Spent(b), c, &columns, listed);
                 }
                 c += 1;
-                columns.compared(tables, p);
-                let equal = equal(&tables.classes, tables.bytes[p], text[b + p]);
-                tell(Comparison {
-                    window: b,
-                    place: p,
-                    equal,
-                });
-                if !equal {
+                let made = compare(tables, text, b, p, &mut columns);
+                tell(made);
+                if !made.equal {
                     left_with = i;
                     break;
                 }
