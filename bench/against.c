@@ -34,6 +34,8 @@ int main(void)
         puts("\nThe earlier build has no prefix lengths: those of the later one are not compared.");
     if (versions[OTHER][0]->ordered == NULL)
         puts("\nThe earlier build has no custom orders: those of the later one are not compared.");
+    if (versions[OTHER][0]->journaled == NULL)
+        puts("\nThe earlier build has no journals: those of the later one are not compared.");
     putchar('\n');
     judge_ratio("before", "Colussi's order at 0.95 of the search before or better", 0, COUNT_OF(kinds), COLUSSI, LEAST_RATIO);
     judge_ratio("before", "KMP at 0.95 of the search before or better", 0, COUNT_OF(kinds), KMP, LEAST_RATIO);

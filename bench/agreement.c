@@ -132,6 +132,45 @@ bool orders_agree(const struct version *a, const struct version *b, const struct
         && list_alike(a->ordered, b->colussi, subject, lists);
 }
 
+/* Both journals are spoilt before, differently. Those of a search with that cap must be the same up to its count, and spoilt past it.
+   Gives the count in `len`. */
+static bool write_alike(search_function *a, search_function *b, const struct subject *subject, uint64_t cap, struct lists lists,
+                        size_t *len)
+{
+    const size_t most = most_entries(subject);
+    const struct journal journals[SIDES] = {{lists.journal, most}, {lists.other_journal, most}};
+    struct subject asked = *subject;
+    struct report report;
+    memset(lists.journal, 0xff, most * sizeof *lists.journal);
+    memset(lists.other_journal, 0xfe, most * sizeof *lists.other_journal);
+    asked.journal = &journals[OTHER];
+    b(subject->prepared[OTHER], &asked, cap, lists.other, subject->n, &report);
+    asked.journal = &journals[OURS];
+    a(subject->prepared[OURS], &asked, cap, lists.one, subject->n, &report);
+    *len = (size_t)report.count;
+    for (size_t i = *len; i < most; i++)
+        if (lists.journal[i] != UINT32_C(0xffffffff) || lists.other_journal[i] != UINT32_C(0xfefefefe))
+            return false;
+    return report.count <= most && memcmp(lists.journal, lists.other_journal, *len * sizeof *lists.journal) == 0;
+}
+
+bool journals_agree(const struct version *a, const struct version *b, const struct subject *subject, struct lists lists)
+{
+    if (a->journaled == NULL || b->journaled == NULL)
+        return true;
+    const bool columns = a->has_columns && b->has_columns;
+    struct journal journal = {lists.journal, most_entries(subject)};
+    struct subject asked = *subject;
+    size_t half;
+    asked.journal = &journal;
+    return searches_agree(a->journaled, b->colussi, columns, &asked, lists)
+        && searches_agree(a->journaled, b->journaled, columns, &asked, lists)
+        && write_alike(a->journaled, b->journaled, subject, journal.len / 2, lists, &half)
+        && write_alike(a->journaled, b->journaled, subject, UINT64_MAX, lists, &journal.len)
+        && searches_agree(a->replay, b->replay, columns, &asked, lists)
+        && agree(a->colussi, b->replay, columns, &asked, UINT64_MAX, subject->n, lists);
+}
+
 /* Of two builds, which make their own shifts. In a longer text, windows that are compared afresh take too long. */
 #define LONGEST_FOR_ORDERS 65536
 
@@ -180,5 +219,5 @@ bool versions_agree(const struct version *a, const struct version *b, const stru
         && searches_record(a, b, columns, subject, lists) && lengths_agree(a, b, subject, lists)
         && (b->prepare == NULL
             || (prepare_alike(a, b, subject) && a->charge(subject->n) == b->charge(subject->n)
-                && builds_agree_in_order(a, b, subject, lists)));
+                && builds_agree_in_order(a, b, subject, lists) && journals_agree(a, b, subject, lists)));
 }

@@ -78,16 +78,8 @@ void set_length_rows(void)
 
 static void print_ratios_to_c(int trial)
 {
-    double means[RATIOS] = {1, 1, 1};
     print_head_of_ratios("C", "ours");
-    for (const struct row *row = length_rows; row < length_rows + FOR_LENGTHS; row++) {
-        print_row(row, &row->trial[trial]);
-        putchar('\n');
-        for (enum ratio ratio = 0; ratio < RATIOS; ratio++)
-            into_mean(&means[ratio], row->trial[trial].times[OTHER].ratios[ratio], FOR_LENGTHS);
-    }
-    printf("| %-11s | %-21s | %6s |     |          |          | %5.3f | %5.3f | %5.3f |\n", "lengths", "mean", "", means[LEAST],
-           means[TENTH], means[PAIRS]);
+    print_trial("mean", "", length_rows, FOR_LENGTHS, trial);
 }
 
 static void print_growths(void)

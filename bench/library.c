@@ -1,8 +1,9 @@
 /* The library's functions in the form in which they are measured. It is compiled with the header of each build: those from before
    C-19 know no classes, those from before C-16 report no columns, those from before C-12 have no search for the first
-   occurrence, those from before C-11 have no archives, those from before C-14 have no prefix lengths, and those from before C-20
-   have no custom orders. C can't ask whether a struct has a field, or whether there is a function, so `run` looks into the header
-   and sets HAS_COLUMNS, HAS_FIRST, HAS_ARCHIVES, HAS_LENGTHS and HAS_ORDERED to 1 or 0. */
+   occurrence, those from before C-11 have no archives, those from before C-14 have no prefix lengths, those from before C-20 have
+   no custom orders, and those from before C-21 have no journals. C can't ask whether a struct has a field, or whether there is a
+   function, so `run` looks into the header and sets HAS_COLUMNS, HAS_FIRST, HAS_ARCHIVES, HAS_LENGTHS, HAS_ORDERED and HAS_JOURNAL
+   to 1 or 0. */
 #include "subject.h"
 
 #include <poqewan.h>
@@ -80,6 +81,30 @@ static void ordered(const void *prepared, const struct subject *subject, uint64_
 #define ordered NULL
 #endif
 
+#if HAS_JOURNAL
+static void journaled(const void *prepared, const struct subject *subject, uint64_t cap, uint32_t *positions, size_t room,
+                      struct report *report)
+{
+    const struct journal *journal = subject->journal;
+    const poqewan_report answer = poqewan_journaled(*(const poqewan_pattern *)prepared, subject->text, subject->n,
+                                                    cap_of(journal, cap), positions, room, journal->entries, journal->len);
+    give(report, plain(&answer));
+}
+
+static void replay(const void *prepared, const struct subject *subject, uint64_t cap, uint32_t *positions, size_t room,
+                   struct report *report)
+{
+    const struct journal *journal = subject->journal;
+    (void)cap;
+    const poqewan_report answer = poqewan_replay(*(const poqewan_pattern *)prepared, subject->n, positions, room, journal->entries,
+                                                 journal->len);
+    give(report, plain(&answer));
+}
+#else
+#define journaled NULL
+#define replay NULL
+#endif
+
 #if HAS_ARCHIVES
 static void colussi_record(const void *prepared, const struct subject *subject, uint64_t cap, uint32_t *positions, size_t room,
                            struct report *report)
@@ -149,6 +174,8 @@ const struct version version = {colussi,
                                 NULL,
                                 ordered,
                                 NULL,
+                                journaled,
+                                replay,
                                 colussi_record,
                                 kmp_record,
                                 read_directory,

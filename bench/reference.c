@@ -1,5 +1,6 @@
 /* Colussi's order and Knuth, Morris and Pratt in plain C, by the library's rules and with its report; and the prefix lengths with
-   their count; and custom orders, with shifts that were made before. Neither the pattern nor an order is checked. One loop for each,
+   their count; and custom orders, with shifts that were made before; and Colussi's order with a journal, and the replay of one.
+   Neither the pattern nor an order is checked, nor whether a journal is long enough for the cap. One loop for each,
    as the rules are written, and nothing more clever: the optimizer is left to do the rest. The prefix lengths are there a second
    time, tuned by hand. */
 #include "subject.h"
@@ -67,6 +68,95 @@ static struct report search_colussi(const struct tables *pattern, const uint8_t 
         i = pattern->next[rank];
     }
     return report_of(POQEWAN_DONE, 0, c, at_noholes, written);
+}
+
+/* The same with a journal. */
+static struct report search_journaled(const struct tables *pattern, const uint8_t *text, size_t n, uint64_t cap, uint32_t *positions,
+                                      size_t room, uint32_t *journal)
+{
+    const size_t m = pattern->len, d = pattern->noholes;
+    size_t b = 0, i = 0, e = 0, written = 0;
+    uint64_t c = 0, at_noholes = 0;
+    uint8_t letters[LONGEST_PATTERN], noholes[LONGEST_PATTERN];
+    letters_by_place(pattern, letters);
+    noholes_by_place(pattern, noholes);
+
+    while (b + m <= n) {
+        size_t rank;
+        if (i == m || b + pattern->order[i] < e) {
+            if (written == room)
+                return report_of(POQEWAN_FULL, b, c, at_noholes, written);
+            positions[written++] = (uint32_t)b;
+            rank = m;
+        } else {
+            if (c == cap)
+                return report_of(POQEWAN_SPENT, b, c, at_noholes, written);
+            size_t place = pattern->order[i];
+            bool equal = letters[place] == pattern->classes[text[b + place]];
+            journal[c++] = (uint32_t)(2 * (b + place) + equal);
+            at_noholes += noholes[place];
+            if (equal) {
+                i++;
+                continue;
+            }
+            rank = i;
+        }
+        if (rank >= d)
+            e = b + m;
+        b += pattern->shift[rank];
+        i = pattern->next[rank];
+    }
+    return report_of(POQEWAN_DONE, 0, c, at_noholes, written);
+}
+
+/* The same by a journal, which is refused if it is false. Without a list nothing is written. */
+static inline struct report follow_journal(const struct tables *pattern, size_t n, const uint32_t *journal, size_t len,
+                                           uint32_t *positions, size_t room)
+{
+    const size_t m = pattern->len, d = pattern->noholes;
+    const struct report refused = {.refusal = POQEWAN_FALSE_JOURNAL};
+    size_t b = 0, i = 0, e = 0, c = 0, written = 0;
+    uint64_t at_noholes = 0;
+    uint8_t noholes[LONGEST_PATTERN];
+    noholes_by_place(pattern, noholes);
+
+    while (b + m <= n) {
+        size_t rank;
+        if (i == m || b + pattern->order[i] < e) {
+            if (written == room)
+                return c == len ? report_of(POQEWAN_FULL, b, c, at_noholes, written) : refused;
+            if (positions != NULL)
+                positions[written] = (uint32_t)b;
+            written++;
+            rank = m;
+        } else {
+            if (c == len)
+                return report_of(POQEWAN_SPENT, b, c, at_noholes, written);
+            size_t place = pattern->order[i];
+            uint32_t entry = journal[c++];
+            if (entry / 2 != b + place)
+                return refused;
+            at_noholes += noholes[place];
+            if (entry % 2 == 1) {
+                i++;
+                continue;
+            }
+            rank = i;
+        }
+        if (rank >= d)
+            e = b + m;
+        b += pattern->shift[rank];
+        i = pattern->next[rank];
+    }
+    return c == len ? report_of(POQEWAN_DONE, 0, c, at_noholes, written) : refused;
+}
+
+/* Twice, since a list may only be written if the whole journal is true. */
+static struct report replay_journal(const struct tables *pattern, size_t n, const uint32_t *journal, size_t len, uint32_t *positions,
+                                    size_t room)
+{
+    const struct report report = follow_journal(pattern, n, journal, len, NULL, room);
+    return report.refusal != 0 ? report : follow_journal(pattern, n, journal, len, positions, room);
 }
 
 /* The same up to the first occurrence, without cap, list and columns. */
@@ -339,6 +429,21 @@ static void ordered(const void *prepared, const struct subject *subject, uint64_
     give(report, search_ordered(prepared, subject->order, subject->text, subject->n, cap, positions, room));
 }
 
+static void journaled(const void *prepared, const struct subject *subject, uint64_t cap, uint32_t *positions, size_t room,
+                      struct report *report)
+{
+    const struct journal *journal = subject->journal;
+    give(report, search_journaled(prepared, subject->text, subject->n, cap_of(journal, cap), positions, room, journal->entries));
+}
+
+static void replay(const void *prepared, const struct subject *subject, uint64_t cap, uint32_t *positions, size_t room,
+                   struct report *report)
+{
+    const struct journal *journal = subject->journal;
+    (void)cap;
+    give(report, replay_journal(prepared, subject->n, journal->entries, journal->len, positions, room));
+}
+
 static void fill_shifts(const void *prepared, struct order *order)
 {
     shifts_by_rank(prepared, order->places, order->shifts);
@@ -351,6 +456,8 @@ const struct version version = {.colussi = colussi,
                                 .tuned_lengths = tuned_lengths,
                                 .ordered = ordered,
                                 .fill_shifts = fill_shifts,
+                                .journaled = journaled,
+                                .replay = replay,
                                 .size = sizeof(struct tables),
                                 .has_classes = true,
                                 .has_columns = true};

@@ -84,15 +84,22 @@ static void make_orders(const struct input *input)
     }
 }
 
+/* The journal lies so far from where the list lies in its page. If both grow side by side at the same place of a page, any search that
+   writes them takes twice the time or more, in one run of the program and not in the next, as the system places the pages. */
+#define HALF_PAGE 2048
+
 void make(const struct input *input)
 {
     static uint8_t *text, bytes[IN_TURN][POQEWAN_LONGEST_PATTERN], classes[POQEWAN_CLASSES];
+    const size_t most = most_entries(&(struct subject){.m = 1, .n = POQEWAN_LONGEST_TEXT});
     if (text == NULL) {
         text = touched(POQEWAN_LONGEST_TEXT);
         lists.one = touched(POQEWAN_LONGEST_TEXT * sizeof *lists.one);
         lists.other = touched(POQEWAN_LONGEST_TEXT * sizeof *lists.other);
         lists.lengths = touched(POQEWAN_LONGEST_TEXT * sizeof *lists.lengths);
         lists.other_lengths = touched(POQEWAN_LONGEST_TEXT * sizeof *lists.other_lengths);
+        lists.journal = (uint32_t *)touched(HALF_PAGE + most * sizeof *lists.journal) + HALF_PAGE / sizeof *lists.journal;
+        lists.other_journal = touched(most * sizeof *lists.other_journal);
         for (enum side side = 0; side < SIDES; side++)
             stores[side] = touched(IN_TURN * versions[side][0]->size);
     }
@@ -110,7 +117,7 @@ void make(const struct input *input)
     for (size_t i = 0; i < subjects_made; i++) {
         const uint8_t *in = input->archive != NULL ? record_of(input) : input->kind != NULL ? text : bytes[i];
         subjects[i] = (struct subject){
-            bytes[i], input->m, classes, in, length_of_text(input), {NULL}, input->archive, input->record, NULL};
+            bytes[i], input->m, classes, in, length_of_text(input), {NULL}, input->archive, input->record, NULL, NULL};
         for (enum side side = 0; side < SIDES; side++) {
             subjects[i].prepared[side] = stores[side] + i * versions[side][0]->size;
             prepare(&subjects[i], side);
@@ -169,7 +176,8 @@ struct row rows[ROWS];
 struct row *const longest_texts = rows + TEXTS - COUNT_OF(kinds), *const first_rows = rows + TEXTS + PATTERNS;
 struct row *const archive_rows = rows + TEXTS + PATTERNS + FIRSTS;
 struct row *const length_rows = rows + TEXTS + PATTERNS + FIRSTS + IN_ARCHIVES;
-struct row *const ordered_rows = rows + TEXTS + PATTERNS + FIRSTS + IN_ARCHIVES + FOR_LENGTHS;
+struct row *const journal_rows = rows + TEXTS + PATTERNS + FIRSTS + IN_ARCHIVES + FOR_LENGTHS;
+struct row *const ordered_rows = rows + TEXTS + PATTERNS + FIRSTS + IN_ARCHIVES + FOR_LENGTHS + FOR_JOURNALS;
 
 void add_trial(struct row *row, const struct work *work, int variants, struct share share)
 {
@@ -253,6 +261,8 @@ static bool agree_on_row(const struct row *row, bool (*agree)(const struct subje
         return false;
     if (row->input.lengths)
         return lengths_agree(versions[OURS][0], versions[OTHER][0], &subjects[0], lists);
+    if (row->input.journal)
+        return journals_agree(versions[OURS][0], versions[OTHER][0], &subjects[0], lists);
     if (row->input.orders > 0)
         return agree_in_orders(row->input.orders);
     for (size_t i = 0; i < subjects_made; i++)
@@ -271,6 +281,7 @@ bool agree_on_rows(bool (*agree)(const struct subject *subject))
                    row->input.first             ? ", for the first occurrence"
                    : row->input.archive != NULL ? ", in an archive"
                    : row->input.lengths         ? ", for prefix lengths"
+                   : row->input.journal         ? ", for journals"
                    : row->input.orders > 0      ? ", in custom orders"
                                                 : "");
             agreed = false;
@@ -319,19 +330,23 @@ void print_row(const struct row *row, const struct trial *trial)
            nanoseconds_of(row, trial->times[OURS].least), ratios[LEAST], ratios[TENTH], ratios[PAIRS]);
 }
 
+void print_trial(const char *mean, const char *size, const struct row *from, size_t count, int trial)
+{
+    double means[RATIOS] = {1, 1, 1};
+    for (const struct row *row = from; row < from + count; row++) {
+        print_row(row, &row->trial[trial]);
+        putchar('\n');
+        for (enum ratio ratio = 0; ratio < RATIOS; ratio++)
+            into_mean(&means[ratio], row->trial[trial].times[OTHER].ratios[ratio], count);
+    }
+    printf("| %-11s | %-21s | %6s |     |          |          | %5.3f | %5.3f | %5.3f |\n", from->trial[trial].work->name, mean, size,
+           means[LEAST], means[TENTH], means[PAIRS]);
+}
+
 void print_ratios(const char *mean, const struct row *from, size_t count)
 {
-    for (int t = 0; t < 2; t++) {
-        double means[RATIOS] = {1, 1, 1};
-        for (const struct row *row = from; row < from + count; row++) {
-            print_row(row, &row->trial[t]);
-            putchar('\n');
-            for (enum ratio ratio = 0; ratio < RATIOS; ratio++)
-                into_mean(&means[ratio], row->trial[t].times[OTHER].ratios[ratio], count);
-        }
-        printf("| %-11s | %-21s | %6s |     |          |          | %5.3f | %5.3f | %5.3f |\n", from->trial[t].work->name, mean,
-               size_name_of(from), means[LEAST], means[TENTH], means[PAIRS]);
-    }
+    for (int t = 0; t < 2; t++)
+        print_trial(mean, size_name_of(from), from, count, t);
 }
 
 /* The texts of one size, with so many rows of each kind. */

@@ -10,7 +10,7 @@ extern const struct version *const versions[SIDES][COPIES];
 
 /* What is searched: a pattern in a text; or many patterns in turn, and no text. For the first occurrence: a pattern in a text
    without any; or many patterns in turn, each in a text that is the pattern itself. For archives: a pattern in a record. For prefix
-   lengths: a pattern in a text. For custom orders: a pattern in a text, or one pattern and no text. */
+   lengths and for journals: a pattern in a text. For custom orders: a pattern in a text, or one pattern and no text. */
 struct input {
     const struct kind *kind; /* with the size of the text; or none, and then */
     const struct size *size;
@@ -19,6 +19,7 @@ struct input {
     uint64_t number; /* that the generator starts with, if there is a kind, or custom orders */
     bool first;      /* whether it is for the first occurrence */
     bool lengths;    /* whether it is for prefix lengths */
+    bool journal;    /* whether it is for journals */
     size_t orders;   /* how many of the custom orders it is for, or 0 */
     const struct archive *archive; /* or NULL; its records have texts of the kind, and all have that size */
     uint64_t record;               /* if it is not there, the size is 0 */
@@ -27,8 +28,8 @@ struct input {
 /* Memory that was written once, so that no measurement pays for the first touch of a page. */
 void *touched(size_t bytes);
 
-/* Makes an input, and lets both sides prepare it. Its patterns, or its only one, are then in `subjects`, and the lists have an
-   entry for each byte. */
+/* Makes an input, and lets both sides prepare it. Its patterns, or its only one, are then in `subjects`, the lists have an entry for
+   each byte, and the journals are never too short. */
 void make(const struct input *input);
 extern struct subject subjects[IN_TURN];
 extern size_t subjects_made;
@@ -53,7 +54,7 @@ struct row {
 };
 
 /* The rows: short texts; longer ones, each with one length of pattern; patterns; and those for the first occurrence, for archives,
-   for prefix lengths and for custom orders, which are left out unless a program sets them. */
+   for prefix lengths, for journals and for custom orders, which are left out unless a program sets them. */
 #define LENGTH_IN_LONG_TEXTS 16
 #define SHORT_TEXTS (COUNT_OF(kinds) * COUNT_OF(lengths))
 #define TEXTS (SHORT_TEXTS + COUNT_OF(kinds) * (COUNT_OF(sizes) - 1))
@@ -62,11 +63,12 @@ struct row {
 #define FIRSTS (SCANS + PATTERNS)
 #define IN_ARCHIVES 16
 #define FOR_LENGTHS (TEXTS + 6) /* all texts, and further lengths of patterns in some */
+#define FOR_JOURNALS (TEXTS + COUNT_OF(kinds)) /* all texts; and replays, one of each kind */
 #define ORDERED_TEXTS ((COUNT_OF(kinds) + 3) * COUNT_OF(lengths)) /* of the kinds, and of three more */
 #define FOR_ORDERS (ORDERED_TEXTS + COUNT_OF(ordered_families))
-#define ROWS (TEXTS + PATTERNS + FIRSTS + IN_ARCHIVES + FOR_LENGTHS + FOR_ORDERS)
+#define ROWS (TEXTS + PATTERNS + FIRSTS + IN_ARCHIVES + FOR_LENGTHS + FOR_JOURNALS + FOR_ORDERS)
 extern struct row rows[ROWS];
-extern struct row *const first_rows, *const archive_rows, *const length_rows, *const ordered_rows;
+extern struct row *const first_rows, *const archive_rows, *const length_rows, *const journal_rows, *const ordered_rows;
 extern struct row *const longest_texts; /* one of each kind */
 
 /* Sets the rows: both searches by both sides in texts; preparation and the check of patterns by the sides that have them. Kinds
@@ -77,9 +79,9 @@ void add_trial(struct row *row, const struct work *work, int variants, struct sh
 /* Reads what a side has prepared, before its run: the other side has its own, and the cache may be too small for both. */
 void read_prepared(int side);
 
-/* Whether that is so of every subject of every row, but for those left out; of rows for prefix lengths, whether the sides agree in
-   these, and of rows for custom orders, in each order; and whether a text that shall be without occurrences is so. A row of which it
-   isn't is printed. */
+/* Whether that is so of every subject of every row, but for those left out; of rows for prefix lengths and for journals, whether the
+   sides agree in these, and of rows for custom orders, in each order; and whether a text that shall be without occurrences is so. A
+   row of which it isn't is printed. */
 bool agree_on_rows(bool (*agree)(const struct subject *subject));
 bool sides_agree(const struct subject *subject);
 
@@ -90,10 +92,11 @@ const char *size_name_of(const struct row *row);
 double nanoseconds_of(const struct row *row, double seconds); /* a byte of the text, or a call */
 
 /* The table of the first two trials of rows: its head, with the names of both sides; and lines with the least times in
-   nanoseconds, a byte or a call, and the ratios, with geometric means at the end: of rows, and of the texts of each size, where
-   the plain kinds have a mean of their own and those with classes have another. */
+   nanoseconds, a byte or a call, and the ratios, with geometric means at the end: of one trial alone, of rows, and of the texts of
+   each size, where the plain kinds have a mean of their own and those with classes have another. */
 void print_head_of_ratios(const char *other, const char *ours);
 void print_row(const struct row *row, const struct trial *trial); /* without the end of the line */
+void print_trial(const char *mean, const char *size, const struct row *from, size_t count, int trial);
 void print_ratios(const char *mean, const struct row *from, size_t count);
 void print_text_ratios(void);
 

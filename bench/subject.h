@@ -28,6 +28,12 @@ struct order {
     uint16_t shifts[LONGEST_PATTERN + 1];
 };
 
+/* A journal: a search in Colussi's order writes it, and a replay follows it. */
+struct journal {
+    uint32_t *entries;
+    size_t len;
+};
+
 /* A pattern with its classes, and the text to look for it in. Each side has prepared it before, into a store of its own. The text
    may be a record of an archive; with a number of a record that is not there, it is empty. */
 struct subject {
@@ -39,7 +45,8 @@ struct subject {
     void *prepared[SIDES];
     const struct archive *archive; /* or NULL */
     uint64_t record;
-    const struct order *order; /* or NULL */
+    const struct order *order;     /* or NULL */
+    const struct journal *journal; /* or NULL */
 };
 
 /* The library's report. The columns of a build that reports none are 0. */
@@ -70,6 +77,18 @@ struct prefix_lengths {
 };
 typedef struct prefix_lengths lengths_function(const void *prepared, const struct subject *subject, uint16_t *lengths, size_t room);
 
+/* A journal that is never too short. */
+static inline size_t most_entries(const struct subject *subject)
+{
+    return subject->n < subject->m ? 0 : (3 * subject->n - subject->m) / 2;
+}
+
+/* The cap of a search with a journal, which is refused if the journal is shorter. */
+static inline uint64_t cap_of(const struct journal *journal, uint64_t cap)
+{
+    return cap < journal->len ? cap : journal->len;
+}
+
 static inline void give(struct report *place, struct report report)
 {
     if (place != NULL)
@@ -93,6 +112,9 @@ struct version {
     lengths_function *tuned_lengths;  /* of the C, tuned by hand; NULL in a build */
     search_function *ordered;         /* in the subject's order; NULL in a build that has none */
     void (*fill_shifts)(const void *prepared, struct order *order); /* of the C; NULL in a build */
+    /* Into the subject's journal, with a cap that is no more than its length; and by that journal, whatever the cap and the text are.
+       Both NULL in a build that has none. */
+    search_function *journaled, *replay;
     /* Of the record in its archive, and of the directory, with the number of the refusal; all NULL in a build without archives. */
     search_function *colussi_record, *kmp_record;
     uint32_t (*read_directory)(const struct archive *archive);

@@ -52,6 +52,8 @@ extern "C" {
 #define POQEWAN_CLASSES_NOT_256 14
 #define POQEWAN_ZERO_CLASS_SHARED 15
 #define POQEWAN_FALSE_ORDER 16
+#define POQEWAN_SHORT_JOURNAL 17
+#define POQEWAN_FALSE_JOURNAL 18
 
 /* How a search ended: run to its end; or cut off at a window, where a comparison was due and the cap was spent, or where the
    pattern occurred and the list had no free entry. Or nothing was searched, since the archive has no such record. */
@@ -182,6 +184,35 @@ poqewan_report poqewan_kmp(poqewan_pattern pattern, const uint8_t *text, size_t 
  */
 poqewan_report poqewan_ordered(poqewan_pattern pattern, const uint8_t *order, size_t order_len, const uint8_t *text,
                                size_t text_len, uint64_t cap, uint32_t *positions, size_t positions_len);
+
+/*
+ * Searches a text in Colussi's order, with at most `cap` comparisons and with the report and the list of poqewan_colussi, and
+ * writes a journal of them: entry i becomes twice the position in the text of comparison i, plus 1 if the bytes there were
+ * equal. Comparisons count from 0, as they are made. The first `count` entries are written, and those past them are unchanged.
+ * Refused, in this order, with list and journal unchanged: a pattern that is not what preparation gives for its own length,
+ * bytes and classes (4), a text of more than POQEWAN_LONGEST_TEXT bytes (5), a journal with fewer entries than `cap` (17).
+ *
+ * With n text bytes and m pattern bytes, a cap of (3 * n - m) / 2 is never spent if n >= m, and a cap of 0 if n < m. So a
+ * journal of as many entries is long enough.
+ */
+poqewan_report poqewan_journaled(poqewan_pattern pattern, const uint8_t *text, size_t text_len, uint64_t cap,
+                                 uint32_t *positions, size_t positions_len, uint32_t *journal, size_t journal_len);
+
+/*
+ * Follows a search in Colussi's order by its journal, without the text. The rules are the same, and entry i of the journal
+ * answers comparison i: an odd one says equal. Report and list are those that poqewan_colussi, with `journal_len` for its cap,
+ * gives with that list on any text of `text_len` bytes that answers those comparisons so. If the journal runs out while a
+ * comparison is due, the ending is POQEWAN_SPENT. Refused, in this order, with the list unchanged: a pattern that is not what
+ * preparation gives for its own length, bytes and classes (4), a `text_len` of more than POQEWAN_LONGEST_TEXT (5), a journal with
+ * an entry whose half, rounded down, is not the position that the rules compare next, or with entries that remain after the
+ * search is done or full (18).
+ *
+ * So what poqewan_journaled writes, its first `count` entries, is replayed to the same report and list, with a list of as many
+ * entries. The answer to a journal that no text could have given is the rules' answer to it. With n = `text_len`, and for any
+ * journal, `count` is its length and under the ceiling of poqewan_colussi.
+ */
+poqewan_report poqewan_replay(poqewan_pattern pattern, size_t text_len, uint32_t *positions, size_t positions_len,
+                              const uint32_t *journal, size_t journal_len);
 
 /*
  * Searches a text in Colussi's order, without a cap, for the first position where the pattern occurs, and stops there.

@@ -122,6 +122,26 @@ extern "C" {
         positions_len: usize,
     ) -> Report;
 
+    pub fn poqewan_journaled(
+        pattern: Pattern,
+        text: *const u8,
+        text_len: usize,
+        cap: u64,
+        positions: *mut u32,
+        positions_len: usize,
+        journal: *mut u32,
+        journal_len: usize,
+    ) -> Report;
+
+    pub fn poqewan_replay(
+        pattern: Pattern,
+        text_len: usize,
+        positions: *mut u32,
+        positions_len: usize,
+        journal: *const u32,
+        journal_len: usize,
+    ) -> Report;
+
     pub fn poqewan_find_first(pattern: Pattern, text: *const u8, text_len: usize) -> First;
 
     pub fn poqewan_prefix_lengths(

@@ -90,6 +90,28 @@
 //! # Ok::<(), Refusal>(())
 //! ```
 //!
+//! With a journal of the comparisons, by which the search is followed without the text:
+//!
+//! ```
+//! use poqewan::{identity, journaled, prepare, replay, Refusal, SCRATCH};
+//!
+//! let pattern = prepare(b"aba", &identity(), &mut [0; SCRATCH])?.pattern;
+//! let (mut positions, mut journal) = ([0; 8], [0; 6]);
+//! let report = journaled(&pattern, b"ababa", 6, &mut positions, &mut journal)?;
+//! let journal = &journal[..report.count as usize];
+//!
+//! // Positions 1, 2, 0, 3 and 4 of the text were compared, and all were equal.
+//! assert_eq!(journal, [3, 5, 1, 7, 9]);
+//!
+//! let mut replayed = [0; 8];
+//! assert_eq!(replay(&pattern, 5, &mut replayed, journal)?, report);
+//! assert_eq!(replayed, positions);
+//!
+//! let without_the_first = replay(&pattern, 5, &mut replayed, &journal[1..]);
+//! assert_eq!(without_the_first, Err(Refusal::FalseJournal));
+//! # Ok::<(), Refusal>(())
+//! ```
+//!
 //! Three records in one archive, and a search of one of them:
 //!
 //! ```
@@ -208,6 +230,11 @@ pub enum Refusal {
     ZeroClassShared = 15,
     /// The order is not m different places of the pattern, each below m.
     FalseOrder = 16,
+    /// The journal has fewer entries than the cap allows comparisons.
+    ShortJournal = 17,
+    /// The journal has an entry whose position is not the one that the rules compare next, or entries
+    /// that remain after the search is done or full.
+    FalseJournal = 18,
 }
 
 impl Refusal {
@@ -241,6 +268,11 @@ impl fmt::Display for Refusal {
             Self::ClassesNot256 => "the number of classes is not 256",
             Self::ZeroClassShared => "a value other than 0 has the class of 0",
             Self::FalseOrder => "the order does not have each place of the pattern once",
+            Self::ShortJournal => "the journal has fewer entries than the cap allows comparisons",
+            Self::FalseJournal => {
+                "the journal has an entry that is not for the position compared next, or entries \
+                 after the search's end"
+            }
         })
     }
 }
@@ -416,6 +448,80 @@ pub fn ordered(
             cap,
             positions.as_mut_ptr(),
             positions.len(),
+        )
+    };
+    searched(&answer)
+}
+
+/// Searches a text in Colussi's order, with at most `cap` comparisons and with the report and the list
+/// of [`colussi`], and writes a journal of them: entry i becomes twice the position in the text of
+/// comparison i, plus 1 if the bytes there were equal. Comparisons count from 0, as they are made. The
+/// first `count` entries are written, and those past them are unchanged.
+///
+/// With n text bytes and m pattern bytes, a cap of (3 * n - m) / 2 is never spent if n >= m, and a cap
+/// of 0 if n < m. So a journal of as many entries is long enough.
+///
+/// # Errors
+///
+/// Refused, in this order, with list and journal unchanged: a pattern that is not what preparation
+/// gives for its own length, bytes and classes (4), a text of more than [`LONGEST_TEXT`] bytes (5), a
+/// journal with fewer entries than `cap` (17).
+pub fn journaled(
+    pattern: &Pattern,
+    text: &[u8],
+    cap: u64,
+    positions: &mut [u32],
+    journal: &mut [u32],
+) -> Result<Report, Refusal> {
+    // SAFETY: each pointer and its number of elements are those of a slice, and what is written is
+    // borrowed mutably, so it overlaps nothing else. Any value of the pattern is answered.
+    let answer = unsafe {
+        ffi::poqewan_journaled(
+            *pattern,
+            text.as_ptr(),
+            text.len(),
+            cap,
+            positions.as_mut_ptr(),
+            positions.len(),
+            journal.as_mut_ptr(),
+            journal.len(),
+        )
+    };
+    searched(&answer)
+}
+
+/// Follows a search in Colussi's order by its journal, without the text. The rules are the same, and
+/// entry i of the journal answers comparison i: an odd one says equal.
+///
+/// Report and list are those that [`colussi`], with the journal's length for its cap, gives with that
+/// list on any text of `text_len` bytes that answers those comparisons so. If the journal runs out
+/// while a comparison is due, the ending is [`Ending::Spent`]. So what [`journaled`] writes, its first
+/// `count` entries, is replayed to the same report and list, with a list of as many entries. The
+/// answer to a journal that no text could have given is the rules' answer to it. For any journal,
+/// `count` is its length and under the ceiling of [`colussi`].
+///
+/// # Errors
+///
+/// Refused, in this order, with the list unchanged: a pattern that is not what preparation gives
+/// for its own length, bytes and classes (4), a `text_len` of more than [`LONGEST_TEXT`] (5), a journal
+/// with an entry whose half, rounded down, is not the position that the rules compare next, or with
+/// entries that remain after the search is done or full (18).
+pub fn replay(
+    pattern: &Pattern,
+    text_len: usize,
+    positions: &mut [u32],
+    journal: &[u32],
+) -> Result<Report, Refusal> {
+    // SAFETY: each pointer and its number of elements are those of a slice, and what is written is
+    // borrowed mutably, so it overlaps nothing else. Any value of the pattern is answered.
+    let answer = unsafe {
+        ffi::poqewan_replay(
+            *pattern,
+            text_len,
+            positions.as_mut_ptr(),
+            positions.len(),
+            journal.as_ptr(),
+            journal.len(),
         )
     };
     searched(&answer)
@@ -611,6 +717,8 @@ fn accepted(number: u32) -> Result<(), Refusal> {
         14 => Err(Refusal::ClassesNot256),
         15 => Err(Refusal::ZeroClassShared),
         16 => Err(Refusal::FalseOrder),
+        17 => Err(Refusal::ShortJournal),
+        18 => Err(Refusal::FalseJournal),
         other => unreachable!("the library's contract has no refusal {other}"),
     }
 }
@@ -679,7 +787,7 @@ mod tests {
 
     #[test]
     fn the_number_of_a_refusal_is_read_back_as_that_refusal() {
-        for number in (1..=5).chain([7, 8, 9, 10, 11, 14, 15, 16]) {
+        for number in (1..=5).chain([7, 8, 9, 10, 11, 14, 15, 16, 17, 18]) {
             assert_eq!(accepted(number).map_err(Refusal::number), Err(number));
         }
         assert_eq!(accepted(0), Ok(()));

@@ -4,11 +4,12 @@
 mod common;
 mod oracle;
 
-use common::classes::{c_in_b, letters, one_but_0, Classes, Drawn};
+use common::classes::{c_in_b, in_disguise, letters, one_but_0, Classes, Drawn};
 use common::orders::{arrangements, drawn_order, left_to_right, right_to_left};
-use common::worked::{windows_and_places, LONG, NO_CAP};
+use common::worked::{cut_off, windows_and_places, LONG, NO_CAP};
 use common::{
-    changed, fibonacci, repeated, words, words_of_lengths, Method, Random, Trial, UNWRITTEN,
+    changed, families, fibonacci, repeated, words, words_of_lengths, Method, Random, Trial,
+    OVERLAPPING, UNWRITTEN,
 };
 use oracle::lengths::longest_start;
 use oracle::ordered::CustomOrder;
@@ -129,35 +130,10 @@ impl Worked {
         windows_and_places(self.compared)
     }
 
-    /// The report with a cap and a list. The list has no entry for the first position past its end,
-    /// once the comparisons of that window are made; the cap is spent where one more is due.
+    /// The report with a cap and a list.
     fn report(&self, cap: u64, list_len: usize) -> Report {
         let made = self.comparisons();
-        let full = self.positions.get(list_len).map(|&b| b as usize);
-        let due = made
-            .iter()
-            .filter(|&&(window, _)| !full.is_some_and(|b| b < window));
-        let due = due.count();
-        let count = due.min(usize::try_from(cap).unwrap_or(usize::MAX));
-        let ending = match full {
-            _ if count < due => Spent(made[count].0),
-            Some(b) => Full(b),
-            None => Done,
-        };
-        let is_nohole = |place: usize| self.noholes.contains(&place.to_string());
-        let at_noholes = made[..count].iter().filter(|&&(_, place)| is_nohole(place));
-        let at_noholes = at_noholes.count();
-        let written = match ending {
-            Done => self.positions.len(),
-            Spent(b) | Full(b) => self.positions.partition_point(|&at| (at as usize) < b),
-        };
-        Report {
-            ending,
-            count: count as u64,
-            at_noholes: at_noholes as u64,
-            at_holes: (count - at_noholes) as u64,
-            written,
-        }
+        cut_off(&made, self.noholes, self.positions, cap, list_len)
     }
 }
 
@@ -388,15 +364,7 @@ fn all_limits_for_every_arrangement_of_up_to_3_letters_in_every_text_of_up_to_6(
 #[test]
 fn all_limits_where_occurrences_overlap_and_where_they_just_fail() {
     let mut random = Random::new(201);
-    for (bytes, root) in [
-        (&b"aaaa"[..], &b"a"[..]),
-        (b"abaab", b"aba"),
-        (b"aabaa", b"aabaa"),
-        (b"aabaabaa", b"aab"),
-        (b"aabaabaa", b"aabaabaabb"),
-        (b"aab", b"a"),
-        (b"abaababa", b"abaababb"),
-    ] {
+    for (bytes, root) in OVERLAPPING {
         let mut trial = Trial::of(bytes);
         let m = bytes.len();
         for order in [
@@ -561,26 +529,6 @@ fn of_a_run_a_mismatch_moves_the_window_past_its_place() {
     }
 }
 
-/// Patterns of a length: of one letter, periodic, drawn from two letters and from all, a Fibonacci
-/// word, a run that another letter closes or opens, and all values but 0.
-fn families(m: usize, random: &mut Random) -> Vec<Vec<u8>> {
-    let run = repeated(b"a", m);
-    vec![
-        changed(&run, m - 1, b'b'),
-        changed(&run, 0, b'b'),
-        changed(&run, m / 2, b'b'),
-        run,
-        repeated(b"ab", m),
-        repeated(b"aab", m),
-        repeated(b"abacabad", m),
-        fibonacci(m),
-        random.word(b"ab", m),
-        random.word(b"aaaaaaab", m),
-        random.word(&identity()[1..], m),
-        repeated(&identity()[1..], m),
-    ]
-}
-
 /// Searches in drawn orders and in three plain ones, in drawn texts, also with a cap and a list that
 /// may bind.
 fn search_in_drawn_orders(drawn: &Drawn, bytes: &[u8], orders: usize, random: &mut Random) {
@@ -637,25 +585,15 @@ fn drawn_orders_through_drawn_classes() {
 /// The classes decide and not the bytes: a pattern and a text in disguise have the same answer.
 #[test]
 fn a_disguise_changes_nothing() {
-    let mut random = Random::new(210);
-    for number in [2, 3, 16, 64, 200] {
-        let drawn = Drawn::of(number, number % 2 == 0, &mut random);
-        for len in [1, 2, 7, 32, 256] {
-            for bytes in drawn.patterns(len, &mut random) {
-                let mut trial = Trial::with_classes(&bytes, &drawn.classes);
-                let disguised = drawn.disguised(&bytes, &mut random);
-                let mut other = Trial::with_classes(&disguised, &drawn.classes);
-                let order = drawn_order(len, &mut random);
-                let [custom, house_of_other] = [&trial, &other].map(|trial| trial.custom(&order));
-                for text in drawn.texts(&bytes, &mut random) {
-                    let report = trial.check_ordered_to_the_end(&custom, &text);
-                    let text = drawn.disguised(&text, &mut random);
-                    let of_other = other.check_ordered_to_the_end(&house_of_other, &text);
-                    assert_eq!(of_other, report);
-                }
-            }
+    in_disguise(210, |drawn, bytes, [trial, other], random| {
+        let order = drawn_order(bytes.len(), random);
+        let [custom, of_other] = [&*trial, &*other].map(|trial| trial.custom(&order));
+        for text in drawn.texts(bytes, random) {
+            let report = trial.check_ordered_to_the_end(&custom, &text);
+            let text = drawn.disguised(&text, random);
+            assert_eq!(other.check_ordered_to_the_end(&of_other, &text), report);
         }
-    }
+    });
 }
 
 /// No occurrence covers a byte 0: the positions are those of each segment alone.

@@ -5,7 +5,7 @@
 mod common;
 mod oracle;
 
-use common::classes::{c_in_b, letters, one_but_0, Classes, Drawn};
+use common::classes::{c_in_b, in_disguise, letters, one_but_0, Classes, Drawn};
 use common::lengths::whole;
 use common::worked::{windows_and_places, NO_CAP};
 use common::{
@@ -442,20 +442,11 @@ fn a_byte_0_ends_every_length() {
 /// The classes decide and not the bytes: a pattern and a text in disguise have the same answer.
 #[test]
 fn a_disguise_changes_nothing() {
-    let mut random = Random::new(147);
-    for number in [2, 3, 16, 64, 200] {
-        let drawn = Drawn::of(number, number % 2 == 0, &mut random);
-        for len in [1, 2, 7, 32, 256] {
-            for bytes in drawn.patterns(len, &mut random) {
-                let trial = Trial::with_classes(&bytes, &drawn.classes);
-                let disguised = drawn.disguised(&bytes, &mut random);
-                let other = Trial::with_classes(&disguised, &drawn.classes);
-                for text in drawn.texts(&bytes, &mut random) {
-                    let answer = trial.check_lengths(&text);
-                    let text = drawn.disguised(&text, &mut random);
-                    assert_eq!(other.check_lengths(&text), answer);
-                }
-            }
+    in_disguise(147, |drawn, bytes, [trial, other], random| {
+        for text in drawn.texts(bytes, random) {
+            let answer = trial.check_lengths(&text);
+            let text = drawn.disguised(&text, random);
+            assert_eq!(other.check_lengths(&text), answer);
         }
-    }
+    });
 }

@@ -8,7 +8,10 @@ use common::orders::{
     arrangements, assert_order_refused, drawn_order, left_to_right, right_to_left,
 };
 use common::worked::NO_CAP;
-use common::{changed, fibonacci, prepared, repeated, words_of_lengths, Random, Trial, UNWRITTEN};
+use common::{
+    changed, false_patterns, fibonacci, prepared, repeated, words_of_lengths, Random, Trial,
+    UNWRITTEN,
+};
 use oracle::lengths::LONGEST_RECORD;
 use oracle::ordered::{are_places, refusal};
 use oracle::{identity, tables_if_true, Tables, LONGEST_PATTERN};
@@ -223,32 +226,7 @@ fn a_false_order_is_refused_whatever_the_text() {
 /// none.
 #[test]
 fn a_false_pattern_is_refused_whatever_the_order() {
-    let good = prepared(b"aab");
-    let mut patterns = vec![oracle::ZERO];
-    for len in [0, 1, 2, 4, 256, 257, usize::MAX] {
-        patterns.push(Pattern { len, ..good });
-    }
-    for noholes in [0, 2, usize::MAX] {
-        patterns.push(Pattern { noholes, ..good });
-    }
-    let mut change = |change: fn(&mut Pattern)| {
-        let mut pattern = good;
-        change(&mut pattern);
-        patterns.push(pattern);
-    };
-    change(|pattern| pattern.bytes[0] = 0);
-    change(|pattern| pattern.bytes[1] = b'b');
-    change(|pattern| pattern.bytes[255] = b'a');
-    change(|pattern| pattern.classes[usize::from(b'b')] = b'a');
-    change(|pattern| pattern.classes[usize::from(b'c')] = 0);
-    change(|pattern| pattern.order.swap(0, 1));
-    change(|pattern| pattern.order[255] = 1);
-    change(|pattern| pattern.shift[3] += 1);
-    change(|pattern| pattern.next[3] += 1);
-    change(|pattern| pattern.marks[0] ^= 1);
-    change(|pattern| pattern.marks[3] ^= 1 << 63);
-    for pattern in &patterns {
-        assert!(tables_if_true(pattern).is_none(), "{pattern:?}");
+    for pattern in &false_patterns() {
         for order in [
             &[][..],
             &[0],
@@ -265,7 +243,7 @@ fn a_false_pattern_is_refused_whatever_the_order() {
             }
         }
     }
-    assert!(ordered(&good, &[2, 1, 0], b"aab", NO_CAP, &mut [0]).is_ok());
+    assert!(ordered(&prepared(b"aab"), &[2, 1, 0], b"aab", NO_CAP, &mut [0]).is_ok());
 }
 
 /// The pattern's own order is tested with the rest of it, and is no matter after that.

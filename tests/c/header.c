@@ -30,6 +30,18 @@ uint64_t charge_of_order(const poqewan_pattern *pattern, const uint8_t *order, c
     return r.refusal == POQEWAN_FALSE_ORDER ? 0 : poqewan_charge(r.count);
 }
 
+uint64_t charge_of_journal(const poqewan_pattern *pattern, const uint8_t *text, size_t n);
+
+uint64_t charge_of_journal(const poqewan_pattern *pattern, const uint8_t *text, size_t n)
+{
+    uint32_t positions[8192], journal[8192];
+    poqewan_report r = poqewan_journaled(*pattern, text, n, 8192, positions, 8192, journal, 8192);
+    if (r.refusal == POQEWAN_SHORT_JOURNAL)
+        return 0;
+    r = poqewan_replay(*pattern, n, positions, 8192, journal, (size_t)r.count);
+    return r.refusal == POQEWAN_FALSE_JOURNAL ? 0 : poqewan_charge(r.count);
+}
+
 uint64_t charge_of_lengths(const poqewan_pattern *pattern, const uint8_t *text, size_t n);
 
 uint64_t charge_of_lengths(const poqewan_pattern *pattern, const uint8_t *text, size_t n)

@@ -4,12 +4,14 @@
  *
  * With the argument "quick" it does less, for a checker under which it runs slowly. The last line is 'N checks, M failed'.
  */
+#define _DEFAULT_SOURCE /* MAP_ANONYMOUS */
 #include "poqewan.h"
 
 #include <stdbool.h>
 #include <stdio.h>
 #include <stdlib.h>
 #include <string.h>
+#include <sys/mman.h>
 
 /* The sizes, as the documents have them. */
 _Static_assert(POQEWAN_LONGEST_PATTERN == 256, "the longest pattern");
@@ -32,6 +34,8 @@ _Static_assert(POQEWAN_SHORT_LENGTHS == 11, "short list of lengths");
 _Static_assert(POQEWAN_CLASSES_NOT_256 == 14, "classes not 256");
 _Static_assert(POQEWAN_ZERO_CLASS_SHARED == 15, "zero's class shared");
 _Static_assert(POQEWAN_FALSE_ORDER == 16, "false order");
+_Static_assert(POQEWAN_SHORT_JOURNAL == 17, "short journal");
+_Static_assert(POQEWAN_FALSE_JOURNAL == 18, "false journal");
 
 /* The numbers of the endings. */
 _Static_assert(POQEWAN_DONE == 0, "done");
@@ -83,7 +87,7 @@ _Static_assert(offsetof(poqewan_bounds, end) == 16, "end");
 #define PADDING_FROM (offsetof(poqewan_pattern, next) + sizeof ((poqewan_pattern *)NULL)->next)
 #define PADDING_TO offsetof(poqewan_pattern, marks)
 
-/* What lists and scratches hold before a call. No length is so great. */
+/* What lists, journals and scratches hold before a call. No length is so great. */
 #define UNWRITTEN UINT32_C(0xA5A5A5A5)
 #define UNTOUCHED UINT16_C(0xA5A5)
 
@@ -165,6 +169,32 @@ static bool unwritten(const uint32_t *list, size_t from, size_t to)
     return true;
 }
 
+/* Entries before and after a list or a journal that is lent, which no call may write. */
+#define GUARD 2
+
+static uint32_t *lend_guarded(size_t len)
+{
+    return lend_list(len + 2 * GUARD) + GUARD;
+}
+
+static void free_guarded(uint32_t *list, size_t len)
+{
+    CHECK(unwritten(list - GUARD, 0, GUARD) && unwritten(list, len, len + GUARD));
+    free(list - GUARD);
+}
+
+static uint32_t *lend_entries(const uint32_t *entries, size_t len)
+{
+    uint32_t *copy = lend_list(len);
+    memcpy(copy, entries, len * sizeof *copy);
+    return copy;
+}
+
+static bool same_entries(const uint32_t *one, const uint32_t *other, size_t len)
+{
+    return len == 0 || memcmp(one, other, len * sizeof *one) == 0;
+}
+
 /* A generator of a fixed sequence (xorshift). */
 static uint64_t random_number(void)
 {
@@ -213,6 +243,11 @@ static bool is_report(poqewan_report report, uint32_t ending, size_t window, str
 {
     return report.refusal == 0 && report.ending == ending && report.window == window && report.count == counts.count &&
            report.at_noholes == counts.at_noholes && report.at_holes == counts.at_holes && report.written == written;
+}
+
+static bool is_like(poqewan_report report, poqewan_report other)
+{
+    return is_report(report, other.ending, other.window, counts_of(other), other.written);
 }
 
 static bool is_first(poqewan_first first, uint32_t found, size_t position, uint64_t count)
@@ -286,12 +321,13 @@ static poqewan_pattern prepared(const char *word)
 }
 
 /* All searches must refuse with this number and leave the list as it is. The list of lengths has an entry for each byte, and the
-   custom order has the places from left to right. */
+   custom order has the places from left to right. The journal of a search is left as it is, too, and may be short; that of a replay
+   may be false. */
 static void check_refused(const poqewan_pattern *pattern, const uint8_t *text, size_t text_len, uint32_t number)
 {
     size_t order_len = pattern->len < sizeof own ? pattern->len : sizeof own;
     uint8_t *order = lend_bytes(own, order_len);
-    uint32_t *list = lend_list(4);
+    uint32_t *list = lend_list(4), *journal = lend_list(4);
     uint16_t *lengths = lend_numbers(text_len);
     CHECK(is_refused_first(poqewan_find_first(*pattern, text, text_len), number));
     for (int s = 0; s < SEARCHES; s++) {
@@ -300,9 +336,16 @@ static void check_refused(const poqewan_pattern *pattern, const uint8_t *text, s
     }
     CHECK(is_refusal(poqewan_ordered(*pattern, order, order_len, text, text_len, UINT64_MAX, list, 4), number));
     CHECK(unwritten(list, 0, 4));
+    for (size_t len = 0; len <= 4; len += 4) {
+        CHECK(is_refusal(poqewan_journaled(*pattern, text, text_len, len, list, 4, journal, len), number));
+        CHECK(is_refusal(poqewan_journaled(*pattern, text, text_len, UINT64_MAX, list, 4, journal, len), number));
+        CHECK(is_refusal(poqewan_replay(*pattern, text_len, list, 4, journal, len), number));
+        CHECK(unwritten(list, 0, 4) && unwritten(journal, 0, 4));
+    }
     CHECK(is_lengths(poqewan_prefix_lengths(*pattern, text, text_len, lengths, text_len), number, 0));
     CHECK(numbers_are(lengths, 0, text_len, UNTOUCHED));
     free(lengths);
+    free(journal);
     free(list);
     free(order);
 }
@@ -710,7 +753,7 @@ static void test_class_of_zero(void)
 static void test_null(void)
 {
     uint8_t *a = lend_bytes("a", 1);
-    uint32_t *list = lend_list(1);
+    uint32_t *list = lend_list(1), *journal = lend_list(1);
     uint16_t *lengths = lend_numbers(1);
     poqewan_pattern pattern = prepared("a");
 
@@ -731,7 +774,22 @@ static void test_null(void)
     CHECK(is_report(poqewan_ordered(pattern, own, 1, NULL, 0, 0, list, 1), POQEWAN_DONE, 0, none, 0));
     CHECK(is_report(poqewan_ordered(pattern, own, 1, a, 1, 0, NULL, 0), POQEWAN_SPENT, 0, none, 0));
     CHECK(is_report(poqewan_ordered(pattern, own, 1, a, 1, 1, NULL, 0), POQEWAN_FULL, 0, (struct counts){1, 0, 1}, 0));
-    CHECK(unwritten(list, 0, 1));
+    CHECK(is_report(poqewan_journaled(pattern, NULL, 0, 0, NULL, 0, NULL, 0), POQEWAN_DONE, 0, none, 0));
+    CHECK(is_report(poqewan_journaled(pattern, NULL, 0, 1, list, 1, journal, 1), POQEWAN_DONE, 0, none, 0));
+    CHECK(is_report(poqewan_journaled(pattern, a, 1, 0, NULL, 0, NULL, 0), POQEWAN_SPENT, 0, none, 0));
+    CHECK(is_report(poqewan_journaled(pattern, a, 1, 0, list, 1, journal, 1), POQEWAN_SPENT, 0, none, 0));
+    CHECK(is_refusal(poqewan_journaled(pattern, a, 1, 1, list, 1, NULL, 0), POQEWAN_SHORT_JOURNAL));
+    CHECK(is_refusal(poqewan_journaled(pattern, NULL, 0, 1, NULL, 0, NULL, 0), POQEWAN_SHORT_JOURNAL));
+    CHECK(is_report(poqewan_replay(pattern, 0, NULL, 0, NULL, 0), POQEWAN_DONE, 0, none, 0));
+    CHECK(is_report(poqewan_replay(pattern, 0, list, 1, NULL, 0), POQEWAN_DONE, 0, none, 0));
+    CHECK(is_report(poqewan_replay(pattern, 1, list, 1, NULL, 0), POQEWAN_SPENT, 0, none, 0));
+    CHECK(is_report(poqewan_replay(pattern, 1, NULL, 0, NULL, 0), POQEWAN_SPENT, 0, none, 0));
+    CHECK(unwritten(list, 0, 1) && unwritten(journal, 0, 1));
+    CHECK(is_report(poqewan_journaled(pattern, a, 1, 1, NULL, 0, journal, 1), POQEWAN_FULL, 0, (struct counts){1, 0, 1}, 0));
+    CHECK(journal[0] == 1);
+    CHECK(is_report(poqewan_replay(pattern, 1, NULL, 0, journal, 1), POQEWAN_FULL, 0, (struct counts){1, 0, 1}, 0));
+    CHECK(is_refusal(poqewan_replay(pattern, 0, NULL, 0, journal, 1), POQEWAN_FALSE_JOURNAL));
+    CHECK(unwritten(list, 0, 1) && journal[0] == 1);
     CHECK(is_first(poqewan_find_first(pattern, NULL, 0), 0, 0, 0));
     CHECK(is_lengths(poqewan_prefix_lengths(pattern, NULL, 0, NULL, 0), 0, 0));
     CHECK(is_lengths(poqewan_prefix_lengths(pattern, NULL, 0, lengths, 1), 0, 0));
@@ -741,6 +799,7 @@ static void test_null(void)
     pattern.noholes++;
     check_refused(&pattern, NULL, 0, POQEWAN_FALSE_PATTERN);
     free(lengths);
+    free(journal);
     free(list);
     free(a);
 }
@@ -764,6 +823,8 @@ static void test_changed_patterns(void)
             if (PADDING_FROM <= at && at < PADDING_TO) {
                 CHECK(is_report(poqewan_colussi(changed, text, 12, 0, NULL, 0), POQEWAN_SPENT, 0, none, 0));
                 CHECK(is_report(poqewan_ordered(changed, own, pattern.len, text, 12, 0, NULL, 0), POQEWAN_SPENT, 0, none, 0));
+                CHECK(is_report(poqewan_journaled(changed, text, 12, 0, NULL, 0, NULL, 0), POQEWAN_SPENT, 0, none, 0));
+                CHECK(is_report(poqewan_replay(changed, 12, NULL, 0, NULL, 0), POQEWAN_SPENT, 0, none, 0));
                 CHECK(poqewan_find_first(changed, text, 12).found == 1);
                 CHECK(poqewan_prefix_lengths(changed, text, 12, lengths, 12).refusal == 0);
             } else {
@@ -1009,8 +1070,173 @@ static void check_lengths_by_rules(const poqewan_pattern *pattern, const uint8_t
     free(expected);
 }
 
-/* Runs one search and checks what is promised of any report; where it is run to its end, in Colussi's order the first position
-   as well, and by Knuth, Morris and Pratt the prefix lengths. Gives the report. */
+/* rmin, at each place: the least period of the pattern above it. m is a period. */
+static void fill_rmin(const poqewan_pattern *pattern, size_t *rmin)
+{
+    size_t m = pattern->len, least = m;
+    for (size_t k = m; k > 0; k--) {
+        if (longest_prefix(pattern, pattern->bytes, m, k) == m - k)
+            least = k;
+        rmin[k - 1] = least;
+    }
+}
+
+/* The places that a window compares, by rank: the noholes from one place on, and then the holes from right to left, as far as the
+   text is not known. Gives how many. */
+static size_t fill_places(uint8_t *places, const size_t *kmin, size_t m, size_t from, size_t known)
+{
+    size_t count = 0;
+    for (size_t p = from; p < m; p++)
+        if (kmin[p] > 0)
+            places[count++] = (uint8_t)p;
+    for (size_t p = m; p > known; p--)
+        if (kmin[p - 1] == 0)
+            places[count++] = (uint8_t)(p - 1);
+    return count;
+}
+
+/* What the rules come to: the report, the positions, and for each comparison its entry in a journal and its place. */
+struct course {
+    poqewan_report report;
+    uint32_t *list, *journal;
+    uint8_t *places;
+    size_t due; /* the position that was to be compared where the cap was spent */
+};
+
+static struct course cut_off(struct course course, uint32_t ending, size_t window)
+{
+    course.report.ending = ending;
+    course.report.window = window;
+    return course;
+}
+
+/* Colussi's rules, from document 01's kmin and rmin and without the pattern's tables; a text answers, or, if there are any, entries
+   of a journal, whatever their positions are. There are as many as the cap says. */
+static struct course follow(const poqewan_pattern *pattern, const uint8_t *text, const uint32_t *entries, size_t n, uint64_t cap,
+                            size_t list_len)
+{
+    size_t m = pattern->len, b = 0, from = 0, edge = 0, kmin[POQEWAN_LONGEST_PATTERN + 1], rmin[POQEWAN_LONGEST_PATTERN];
+    size_t most = entries == NULL && cap > 2 * n ? 2 * n : (size_t)cap;
+    struct course c = {{0}, lend_list(list_len < n ? list_len : n), lend_list(most), lend(most), 0};
+    poqewan_report *r = &c.report;
+    fill_kmin(pattern, kmin);
+    fill_rmin(pattern, rmin);
+    while (b + m <= n) {
+        uint8_t places[POQEWAN_LONGEST_PATTERN];
+        size_t count = fill_places(places, kmin, m, from, edge > b ? edge - b : 0), i = 0;
+        for (bool agrees = true; agrees && i < count; i += agrees) {
+            size_t p = places[i];
+            c.due = b + p;
+            if (r->count == cap)
+                return cut_off(c, POQEWAN_SPENT, b);
+            agrees = entries != NULL ? entries[r->count] % 2 == 1 : equal(pattern, pattern->bytes[p], text[b + p]);
+            c.places[r->count] = (uint8_t)p;
+            c.journal[r->count++] = (uint32_t)(2 * (b + p) + agrees);
+            if (kmin[p] > 0)
+                r->at_noholes++;
+            else
+                r->at_holes++;
+        }
+        if (i < count && kmin[places[i]] > 0) {
+            from = places[i] - kmin[places[i]];
+            b += kmin[places[i]];
+            continue;
+        }
+        if (i == count) {
+            if (r->written == list_len)
+                return cut_off(c, POQEWAN_FULL, b);
+            c.list[r->written++] = (uint32_t)b;
+        }
+        size_t shift = rmin[i == count ? 0 : places[i]];
+        edge = b + m;
+        from = m - shift;
+        b += shift;
+    }
+    return c;
+}
+
+static void free_course(struct course course)
+{
+    free(course.places);
+    free(course.journal);
+    free(course.list);
+}
+
+/* Whether a journal, whose answers have that course, has the position of each comparison, and no entry after the last. */
+static bool is_true(const uint32_t *journal, size_t len, const struct course *course)
+{
+    size_t i = 0;
+    while (i < course->report.count && journal[i] / 2 == course->journal[i] / 2)
+        i++;
+    return i == len;
+}
+
+/* Replays a journal: it is refused if it is false, and the list stays. Or else report and list are those of its course. Gives the
+   report. */
+static poqewan_report check_replay(const poqewan_pattern *pattern, size_t n, size_t list_len, const uint32_t *journal, size_t len)
+{
+    uint32_t *list = lend_guarded(list_len), *lent = lend_entries(journal, len);
+    poqewan_report r = poqewan_replay(*pattern, n, list, list_len, lent, len);
+    struct course course = follow(pattern, NULL, lent, n, len, list_len);
+    size_t written = 0;
+    CHECK(same_entries(lent, journal, len));
+    if (is_true(journal, len, &course)) {
+        written = course.report.written;
+        CHECK(is_like(r, course.report));
+        CHECK(same_entries(list, course.list, written));
+    } else {
+        CHECK(is_refusal(r, POQEWAN_FALSE_JOURNAL));
+    }
+    CHECK(unwritten(list, written, list_len));
+    free_course(course);
+    free(lent);
+    free_guarded(list, list_len);
+    return r;
+}
+
+/* Searches with a journal, and checks all of the answer: report and list are those of poqewan_colussi and of the rules, the journal
+   is that of the rules, and what was written is replayed to the same report and list. A short journal is refused. Gives the
+   report. */
+static poqewan_report check_journaled(const poqewan_pattern *pattern, const uint8_t *text, size_t n, uint64_t cap, size_t list_len,
+                                      size_t journal_len)
+{
+    uint32_t *list = lend_guarded(list_len), *journal = lend_guarded(journal_len);
+    poqewan_report r = poqewan_journaled(*pattern, text, n, cap, list, list_len, journal, journal_len);
+    if (cap > journal_len) {
+        CHECK(is_refusal(r, POQEWAN_SHORT_JOURNAL));
+        CHECK(unwritten(list, 0, list_len) && unwritten(journal, 0, journal_len));
+    } else {
+        uint32_t *plain = lend_list(list_len), *again = lend_list(list_len);
+        struct course course = follow(pattern, text, NULL, n, cap, list_len);
+        size_t count = course.report.count;
+        CHECK(is_like(r, course.report));
+        CHECK(is_like(r, poqewan_colussi(*pattern, text, n, cap, plain, list_len)));
+        CHECK(same_entries(list, course.list, course.report.written));
+        CHECK(same_entries(list, plain, list_len));
+        CHECK(same_entries(journal, course.journal, count));
+        CHECK(unwritten(journal, count, journal_len));
+        uint32_t *entries = lend_entries(journal, count);
+        CHECK(is_like(poqewan_replay(*pattern, n, again, list_len, entries, count), r));
+        CHECK(same_entries(again, list, list_len));
+        CHECK(same_entries(entries, journal, count));
+        free(entries);
+        free_course(course);
+        free(again);
+        free(plain);
+    }
+    free_guarded(journal, journal_len);
+    free_guarded(list, list_len);
+    return r;
+}
+
+/* The cap that is never spent, and the length of a journal that is always long enough. */
+static size_t most_entries(size_t m, size_t n)
+{
+    return n < m ? 0 : (3 * n - m) / 2;
+}
+
+/* Runs one search and checks what is promised of any report; in Colussi's order with a journal as well and, where it is run to its
+   end, the first position; and by Knuth, Morris and Pratt the prefix lengths. Gives the report. */
 static poqewan_report check_search(int search, const poqewan_pattern *pattern, const uint8_t *text, size_t n,
                                    uint64_t cap, size_t list_len)
 {
@@ -1033,6 +1259,10 @@ static poqewan_report check_search(int search, const poqewan_pattern *pattern, c
         CHECK(r.count == cap && r.window + m <= n);
     if (r.ending == POQEWAN_FULL)
         CHECK(r.written == list_len && occurs(pattern, text, n, r.window));
+    if (search == COLUSSI) {
+        size_t most = most_entries(m, n), len = cap < most ? (size_t)cap : most;
+        CHECK(is_like(check_journaled(pattern, text, n, len, list_len, len), r));
+    }
     if (search == COLUSSI && r.ending == POQEWAN_DONE)
         check_first(pattern, text, n, r, list);
     if (search == KMP && r.ending == POQEWAN_DONE)
@@ -2211,6 +2441,614 @@ static void test_orders_of_longest_text(bool quick)
     free(text);
 }
 
+/* Worked by hand from document 01's rules: the entries are twice the positions as they are compared, plus 1 where the bytes are
+   equal. Occurrences one after the other; windows that move on by one; misses at holes, after which a window knows its start;
+   patterns of one byte; texts as long as the pattern, and shorter; caps and lists at their edges; byte 0 in the text; and by the
+   joined classes. */
+#define TEXT(word) word, sizeof(word) - 1
+
+static const struct journal_record {
+    const uint8_t *classes;
+    const char *pattern, *text;
+    size_t n;
+    uint64_t cap;
+    size_t list_len;
+    uint32_t ending;
+    size_t window, written;
+    uint32_t positions[3];
+    uint64_t count, at_noholes;
+    uint32_t journal[12];
+} journal_records[] = {
+    {own, "aba", TEXT("ababa"), 6, LONG_LIST, POQEWAN_DONE, 0, 2, {0, 2}, 5, 2, {3, 5, 1, 7, 9}},
+    {own, "aba", TEXT("ababa"), 5, 2, POQEWAN_DONE, 0, 2, {0, 2}, 5, 2, {3, 5, 1, 7, 9}},
+    {own, "aba", TEXT("ababa"), 4, LONG_LIST, POQEWAN_SPENT, 2, 1, {0}, 4, 2, {3, 5, 1, 7}},
+    {own, "aba", TEXT("ababa"), 3, LONG_LIST, POQEWAN_SPENT, 2, 1, {0}, 3, 1, {3, 5, 1}},
+    {own, "aba", TEXT("ababa"), 2, LONG_LIST, POQEWAN_SPENT, 0, 0, {0}, 2, 1, {3, 5}},
+    {own, "aba", TEXT("ababa"), 0, LONG_LIST, POQEWAN_SPENT, 0, 0, {0}, 0, 0, {0}},
+    {own, "aba", TEXT("ababa"), 6, 1, POQEWAN_FULL, 2, 1, {0}, 5, 2, {3, 5, 1, 7, 9}},
+    {own, "aba", TEXT("ababa"), 5, 1, POQEWAN_FULL, 2, 1, {0}, 5, 2, {3, 5, 1, 7, 9}},
+    {own, "aba", TEXT("ababa"), 6, 0, POQEWAN_FULL, 0, 0, {0}, 3, 1, {3, 5, 1}},
+    {own, "aba", TEXT("ababa"), 2, 0, POQEWAN_SPENT, 0, 0, {0}, 2, 1, {3, 5}},
+    {own, "aab", TEXT("aaaab"), 6, LONG_LIST, POQEWAN_DONE, 0, 1, {2}, 5, 3, {4, 6, 9, 7, 5}},
+    {own, "aab", TEXT("aaaab"), 2, LONG_LIST, POQEWAN_SPENT, 2, 0, {0}, 2, 2, {4, 6}},
+    {own, "aab", TEXT("aaaab"), 5, 0, POQEWAN_FULL, 2, 0, {0}, 5, 3, {4, 6, 9, 7, 5}},
+    {own, "aa", TEXT("aaaa"), 5, LONG_LIST, POQEWAN_DONE, 0, 3, {0, 1, 2}, 4, 0, {3, 1, 5, 7}},
+    {own, "aa", TEXT("aaaa"), 5, 2, POQEWAN_FULL, 2, 2, {0, 1}, 4, 0, {3, 1, 5, 7}},
+    {own, "ab", TEXT("aaaa"), 5, LONG_LIST, POQEWAN_DONE, 0, 0, {0}, 3, 3, {2, 4, 6}},
+    {own, "abab", TEXT("abacabab"), 10, LONG_LIST, POQEWAN_DONE, 0, 1, {4}, 7, 5, {3, 6, 8, 11, 15, 13, 9}},
+    {own, "aabaa", TEXT("aabaaaabaa"), 12, LONG_LIST, POQEWAN_DONE, 0, 2, {0, 5}, 12, 4,
+     {5, 9, 7, 3, 1, 10, 12, 15, 19, 17, 13, 11}},
+    {own, "aba", TEXT("cbaba"), 6, LONG_LIST, POQEWAN_DONE, 0, 1, {2}, 5, 2, {3, 5, 0, 7, 9}},
+    {own, "aba", TEXT("abcaba"), 7, LONG_LIST, POQEWAN_DONE, 0, 1, {3}, 5, 2, {3, 4, 9, 11, 7}},
+    {own, "a", TEXT("aab"), 4, LONG_LIST, POQEWAN_DONE, 0, 2, {0, 1}, 3, 0, {1, 3, 4}},
+    {own, "a", TEXT("aab"), 2, LONG_LIST, POQEWAN_SPENT, 2, 2, {0, 1}, 2, 0, {1, 3}},
+    {own, "a", TEXT("aab"), 4, 1, POQEWAN_FULL, 1, 1, {0}, 2, 0, {1, 3}},
+    {own, "a", TEXT("b"), 1, 0, POQEWAN_DONE, 0, 0, {0}, 1, 0, {0}},
+    {own, "a", TEXT("a"), 1, 1, POQEWAN_DONE, 0, 1, {0}, 1, 0, {1}},
+    {own, "a", TEXT(""), 0, 0, POQEWAN_DONE, 0, 0, {0}, 0, 0, {0}},
+    {own, "aba", TEXT(""), 2, LONG_LIST, POQEWAN_DONE, 0, 0, {0}, 0, 0, {0}},
+    {own, "aba", TEXT("ab"), 2, LONG_LIST, POQEWAN_DONE, 0, 0, {0}, 0, 0, {0}},
+    {own, "aba", TEXT("ab"), 0, 0, POQEWAN_DONE, 0, 0, {0}, 0, 0, {0}},
+    {own, "aba", TEXT("aba"), 3, LONG_LIST, POQEWAN_DONE, 0, 1, {0}, 3, 1, {3, 5, 1}},
+    {own, "aba", TEXT("bba"), 3, LONG_LIST, POQEWAN_DONE, 0, 0, {0}, 3, 1, {3, 5, 0}},
+    {own, "aba", TEXT("abb"), 3, LONG_LIST, POQEWAN_DONE, 0, 0, {0}, 2, 1, {3, 4}},
+    {own, "aba", TEXT("aaa"), 3, LONG_LIST, POQEWAN_DONE, 0, 0, {0}, 1, 1, {2}},
+    {own, "aba", TEXT("a\0aba"), 6, LONG_LIST, POQEWAN_DONE, 0, 1, {2}, 5, 3, {2, 4, 7, 9, 5}},
+    {own, "a", TEXT("\0a\0"), 4, LONG_LIST, POQEWAN_DONE, 0, 1, {1}, 3, 0, {0, 3, 4}},
+    {joined, "bca", TEXT("cabBA"), 6, LONG_LIST, POQEWAN_DONE, 0, 1, {2}, 5, 3, {4, 6, 9, 7, 5}},
+    {own, "bca", TEXT("cabBA"), 6, LONG_LIST, POQEWAN_DONE, 0, 0, {0}, 3, 3, {2, 4, 6}},
+    {joined, "aBa", TEXT("DbAcA"), 6, LONG_LIST, POQEWAN_DONE, 0, 1, {2}, 5, 2, {3, 5, 0, 7, 9}},
+    {joined, "abAB", TEXT("aBAbAba"), 5, LONG_LIST, POQEWAN_SPENT, 2, 1, {0}, 5, 3, {3, 7, 5, 1, 11}},
+};
+
+/* With a journal as long as the cap, and with a longer one. */
+static void test_worked_journals(void)
+{
+    for (size_t i = 0; i < sizeof journal_records / sizeof *journal_records; i++)
+        for (size_t more = 0; more <= 3; more += 3) {
+            const struct journal_record *r = &journal_records[i];
+            poqewan_pattern pattern = prepared_by(r->classes, r->pattern);
+            struct counts counts = {r->count, r->at_noholes, r->count - r->at_noholes};
+            size_t journal_len = (size_t)r->cap + more;
+            uint8_t *text = lend_bytes(r->text, r->n);
+            uint32_t *list = lend_list(r->list_len), *again = lend_list(r->list_len), *journal = lend_list(journal_len);
+            poqewan_report got = poqewan_journaled(pattern, text, r->n, r->cap, list, r->list_len, journal, journal_len);
+            CHECK(is_report(got, r->ending, r->window, counts, r->written));
+            CHECK(same_entries(list, r->positions, r->written) && unwritten(list, r->written, r->list_len));
+            CHECK(same_entries(journal, r->journal, r->count) && unwritten(journal, r->count, journal_len));
+            CHECK(r->n == 0 || memcmp(text, r->text, r->n) == 0);
+            got = poqewan_replay(pattern, r->n, again, r->list_len, r->journal, r->count);
+            CHECK(is_report(got, r->ending, r->window, counts, r->written));
+            CHECK(same_entries(again, list, r->list_len));
+            check_journaled(&pattern, text, r->n, r->cap, r->list_len, journal_len);
+            free(journal);
+            free(again);
+            free(list);
+            free(text);
+        }
+}
+
+/* Replays worked by hand from the same rules. Journals that run out; entries that are not of the next comparison, or come after the
+   last; other answers than any of the texts above gives; and two that no text could have given: in abaa, position 3 differs from a
+   and is then equal to it, and in abaaa it is equal to a and then differs from it. */
+static const struct replay_record {
+    const uint8_t *classes;
+    const char *pattern;
+    size_t n, list_len;
+    uint32_t refusal, ending;
+    size_t window, written;
+    uint32_t positions[3];
+    uint64_t at_noholes;
+    size_t len;
+    uint32_t journal[8];
+} replay_records[] = {
+    {own, "aba", 5, LONG_LIST, 0, POQEWAN_SPENT, 0, 0, {0}, 0, 0, {0}},
+    {own, "aba", 5, 0, 0, POQEWAN_SPENT, 0, 0, {0}, 0, 0, {0}},
+    {own, "aba", 3, LONG_LIST, 0, POQEWAN_SPENT, 0, 0, {0}, 0, 0, {0}},
+    {own, "aba", 2, LONG_LIST, 0, POQEWAN_DONE, 0, 0, {0}, 0, 0, {0}},
+    {own, "aba", 0, LONG_LIST, 0, POQEWAN_DONE, 0, 0, {0}, 0, 0, {0}},
+    {own, "aba", 2, LONG_LIST, POQEWAN_FALSE_JOURNAL, 0, 0, 0, {0}, 0, 1, {3}},
+    {own, "aba", 0, LONG_LIST, POQEWAN_FALSE_JOURNAL, 0, 0, 0, {0}, 0, 1, {3}},
+    {own, "aba", 3, LONG_LIST, 0, POQEWAN_SPENT, 0, 0, {0}, 1, 1, {3}},
+    {own, "aba", 5, LONG_LIST, 0, POQEWAN_SPENT, 2, 1, {0}, 1, 3, {3, 5, 1}},
+    {own, "aba", 5, 0, 0, POQEWAN_FULL, 0, 0, {0}, 1, 3, {3, 5, 1}},
+    {own, "aba", 3, 1, 0, POQEWAN_DONE, 0, 1, {0}, 1, 3, {3, 5, 1}},
+    {own, "aba", 5, 0, POQEWAN_FALSE_JOURNAL, 0, 0, 0, {0}, 0, 4, {3, 5, 1, 7}},
+    {own, "aba", 3, 1, POQEWAN_FALSE_JOURNAL, 0, 0, 0, {0}, 0, 4, {3, 5, 1, 7}},
+    {own, "aba", 4, 1, 0, POQEWAN_DONE, 0, 1, {0}, 1, 3, {3, 5, 1}},
+    {own, "aba", 5, 2, POQEWAN_FALSE_JOURNAL, 0, 0, 0, {0}, 0, 6, {3, 5, 1, 7, 9, 11}},
+    {own, "aba", 5, 2, POQEWAN_FALSE_JOURNAL, 0, 0, 0, {0}, 0, 5, {3, 5, 1, 7, 11}},
+    {own, "aba", 5, LONG_LIST, 0, POQEWAN_DONE, 0, 1, {0}, 2, 5, {3, 5, 1, 7, 8}},
+    {own, "aba", 5, LONG_LIST, 0, POQEWAN_DONE, 0, 1, {0}, 2, 4, {3, 5, 1, 6}},
+    {own, "aba", 5, LONG_LIST, 0, POQEWAN_DONE, 0, 0, {0}, 1, 2, {3, 4}},
+    {own, "aba", 6, LONG_LIST, 0, POQEWAN_SPENT, 3, 0, {0}, 1, 2, {3, 4}},
+    {own, "aba", 5, LONG_LIST, 0, POQEWAN_SPENT, 2, 0, {0}, 1, 3, {3, 5, 0}},
+    {own, "aba", 5, LONG_LIST, 0, POQEWAN_DONE, 0, 0, {0}, 3, 3, {2, 4, 6}},
+    {own, "aba", 5, LONG_LIST, 0, POQEWAN_SPENT, 2, 0, {0}, 2, 2, {2, 4}},
+    {own, "aba", 5, LONG_LIST, POQEWAN_FALSE_JOURNAL, 0, 0, 0, {0}, 0, 4, {2, 4, 6, 8}},
+    {own, "aba", 5, LONG_LIST, POQEWAN_FALSE_JOURNAL, 0, 0, 0, {0}, 0, 2, {2, 3}},
+    {own, "aba", 5, LONG_LIST, POQEWAN_FALSE_JOURNAL, 0, 0, 0, {0}, 0, 1, {0}},
+    {own, "aba", 5, LONG_LIST, POQEWAN_FALSE_JOURNAL, 0, 0, 0, {0}, 0, 1, {1}},
+    {own, "aba", 5, LONG_LIST, POQEWAN_FALSE_JOURNAL, 0, 0, 0, {0}, 0, 1, {5}},
+    {own, "aba", 5, LONG_LIST, POQEWAN_FALSE_JOURNAL, 0, 0, 0, {0}, 0, 1, {UINT32_C(0x80000003)}},
+    {own, "aba", 5, LONG_LIST, POQEWAN_FALSE_JOURNAL, 0, 0, 0, {0}, 0, 1, {UINT32_MAX}},
+    {own, "a", 3, LONG_LIST, 0, POQEWAN_DONE, 0, 2, {0, 2}, 0, 3, {1, 2, 5}},
+    {own, "a", 3, 1, 0, POQEWAN_FULL, 2, 1, {0}, 0, 3, {1, 2, 5}},
+    {own, "a", 3, 1, 0, POQEWAN_SPENT, 2, 1, {0}, 0, 2, {1, 2}},
+    {own, "a", 3, 1, 0, POQEWAN_FULL, 1, 1, {0}, 0, 2, {1, 3}},
+    {own, "a", 3, 1, POQEWAN_FALSE_JOURNAL, 0, 0, 0, {0}, 0, 3, {1, 3, 5}},
+    {own, "a", 0, 1, POQEWAN_FALSE_JOURNAL, 0, 0, 0, {0}, 0, 1, {0}},
+    {own, "a", 0, 1, POQEWAN_FALSE_JOURNAL, 0, 0, 0, {0}, 0, 1, {1}},
+    {own, "a", 1, 1, POQEWAN_FALSE_JOURNAL, 0, 0, 0, {0}, 0, 2, {1, 2}},
+    {own, "aa", 4, LONG_LIST, 0, POQEWAN_DONE, 0, 1, {2}, 0, 3, {2, 7, 5}},
+    {own, "aa", 4, LONG_LIST, 0, POQEWAN_SPENT, 2, 0, {0}, 0, 1, {2}},
+    {own, "aab", 5, LONG_LIST, 0, POQEWAN_DONE, 0, 0, {0}, 3, 4, {4, 6, 9, 6}},
+    {own, "abaa", 7, LONG_LIST, 0, POQEWAN_DONE, 0, 1, {3}, 5, 7, {3, 6, 6, 9, 13, 11, 7}},
+    {own, "abaa", 7, 0, 0, POQEWAN_FULL, 3, 0, {0}, 5, 7, {3, 6, 6, 9, 13, 11, 7}},
+    {own, "abaaa", 8, LONG_LIST, 0, POQEWAN_DONE, 0, 0, {0}, 6, 8, {3, 7, 8, 9, 13, 15, 11, 6}},
+    {joined, "bca", 5, LONG_LIST, 0, POQEWAN_DONE, 0, 1, {2}, 3, 5, {4, 6, 9, 7, 5}},
+    {own, "bca", 5, LONG_LIST, POQEWAN_FALSE_JOURNAL, 0, 0, 0, {0}, 0, 5, {4, 6, 9, 7, 5}},
+};
+
+static void test_worked_replays(void)
+{
+    for (size_t i = 0; i < sizeof replay_records / sizeof *replay_records; i++) {
+        const struct replay_record *r = &replay_records[i];
+        poqewan_pattern pattern = prepared_by(r->classes, r->pattern);
+        uint32_t *list = lend_list(r->list_len), *journal = lend_entries(r->journal, r->len);
+        poqewan_report got = poqewan_replay(pattern, r->n, list, r->list_len, journal, r->len);
+        struct counts counts = {r->len, r->at_noholes, r->len - r->at_noholes};
+        CHECK(r->refusal == 0 ? is_report(got, r->ending, r->window, counts, r->written) : is_refusal(got, r->refusal));
+        CHECK(same_entries(list, r->positions, r->written) && unwritten(list, r->written, r->list_len));
+        CHECK(same_entries(journal, r->journal, r->len));
+        check_replay(&pattern, r->n, r->list_len, r->journal, r->len);
+        free(journal);
+        free(list);
+    }
+}
+
+/* The list sizes at the edges of a search that lists so many. */
+#define EDGES(written) {0, (written) / 2, (written) > 0 ? (written) - 1 : 0, (written), (written) + 1}
+
+/* Every cap, with lists at the edges, and journals that are just long enough, longer, and too short. */
+static void check_journal_limits(const poqewan_pattern *pattern, const uint8_t *text, size_t n)
+{
+    size_t most = most_entries(pattern->len, n);
+    poqewan_report whole = check_journaled(pattern, text, n, most, n + 1, most);
+    size_t sizes[] = EDGES(whole.written);
+    CHECK(whole.ending == POQEWAN_DONE);
+    for (size_t i = 0; i < sizeof sizes / sizeof *sizes; i++)
+        if (i == 0 || sizes[i] > sizes[i - 1])
+            for (uint64_t cap = 0; cap <= whole.count + 1; cap++)
+                check_journaled(pattern, text, n, cap, sizes[i], (size_t)cap + i);
+    for (size_t len = 0; len < most; len++)
+        CHECK(check_journaled(pattern, text, n, len + 1, n, len).refusal == POQEWAN_SHORT_JOURNAL);
+    /* A cap that is 0 in its lower half, and the greatest. */
+    CHECK(check_journaled(pattern, text, n, UINT64_C(1) << 32, n, most).refusal == POQEWAN_SHORT_JOURNAL);
+    CHECK(check_journaled(pattern, text, n, UINT64_MAX, n, most).refusal == POQEWAN_SHORT_JOURNAL);
+}
+
+/* Replays a journal that the rules accept: with less of it, down to none; with more; and with an entry changed, in its answer and
+   in its position. Each is judged by the rules. With a step of 1 each entry is changed, or else the first, the last and some
+   between. */
+static void check_changes(const poqewan_pattern *pattern, size_t n, size_t list_len, const uint32_t *journal, size_t len,
+                          size_t step)
+{
+    static const uint32_t more[] = {0, 1, UNWRITTEN, UINT32_MAX};
+    uint32_t *changed = lend_list(len + 1);
+    for (size_t less = 0; less <= len; less += step)
+        CHECK(check_replay(pattern, n, list_len, journal, len - less).refusal == 0);
+    memcpy(changed, journal, len * sizeof *changed);
+    for (size_t i = 0; i < sizeof more / sizeof *more; i++) {
+        changed[len] = more[i];
+        check_replay(pattern, n, list_len, changed, len + 1);
+    }
+    for (size_t i = 0; i < len; i += i + 1 < len && i + step >= len ? len - 1 - i : step) {
+        uint32_t entry = journal[i], others[] = {entry ^ 1, entry + 1, entry - 1, entry + 2, entry - 2, entry / 2, 2 * entry,
+                                                 entry ^ UINT32_C(1) << 31, entry ^ UINT32_C(1) << 16, 0, UINT32_MAX};
+        for (size_t j = 0; j < sizeof others / sizeof *others; j++) {
+            changed[i] = others[j];
+            check_replay(pattern, n, list_len, changed, len);
+            check_replay(pattern, n, list_len, changed, i + 1);
+        }
+        changed[i] = entry;
+    }
+    free(changed);
+}
+
+/* Changes the journal of a whole search, and of one that is full in the middle of its list. */
+static void check_changed_journals(const poqewan_pattern *pattern, const uint8_t *text, size_t n, size_t step)
+{
+    size_t most = most_entries(pattern->len, n), list_len = n;
+    uint32_t *list = lend_list(n), *journal = lend_list(most);
+    for (int i = 0; i < 2; i++) {
+        poqewan_report r = poqewan_journaled(*pattern, text, n, most, list, list_len, journal, most);
+        CHECK(r.refusal == 0 && r.count <= most && r.written <= list_len);
+        if (r.count <= most)
+            check_changes(pattern, n, list_len, journal, (size_t)r.count, step);
+        if (r.written == 0)
+            break;
+        list_len = r.written / 2;
+    }
+    free(journal);
+    free(list);
+}
+
+/* Every pattern in every text, over two letters and up to these lengths; the journals of all but the longest are changed, too. */
+static void check_all_journals(size_t longest_pattern, size_t longest_text)
+{
+    uint8_t bytes[POQEWAN_LONGEST_PATTERN];
+    for (size_t m = 1; m <= longest_pattern; m++)
+        for (size_t word = 0; word < words_of(m, 2); word++) {
+            put_word(bytes, m, 2, word);
+            poqewan_pattern pattern = prepare(bytes, m, POQEWAN_SCRATCH, 0).pattern;
+            for (size_t n = 0; n <= longest_text; n++) {
+                uint8_t *text = lend(n);
+                for (size_t number = 0; number < words_of(n, 2); number++) {
+                    put_word(text, n, 2, number);
+                    check_journal_limits(&pattern, text, n);
+                    if (m < longest_pattern && n < longest_text)
+                        check_changed_journals(&pattern, text, n, 1);
+                }
+                free(text);
+            }
+        }
+}
+
+static void test_all_journals(bool quick)
+{
+    check_all_journals(quick ? 2 : 4, quick ? 4 : 7);
+}
+
+/* The entries that are tried for a text of so many bytes: all up to those of the position past its end, and the greatest. */
+#define CHOICES(n) (2 * (n) + 4)
+
+static uint32_t choice(size_t n, size_t number)
+{
+    return number % CHOICES(n) == CHOICES(n) - 1 ? UINT32_MAX : (uint32_t)(number % CHOICES(n));
+}
+
+/* Every journal of so many of these entries. Gives how many are accepted. */
+static size_t check_every_journal(const poqewan_pattern *pattern, size_t n, size_t list_len, size_t len)
+{
+    uint32_t journal[8];
+    size_t accepted = 0;
+    for (size_t word = 0; word < words_of(len, CHOICES(n)); word++) {
+        size_t number = word;
+        for (size_t i = 0; i < len; i++) {
+            journal[i] = choice(n, number);
+            number /= CHOICES(n);
+        }
+        accepted += check_replay(pattern, n, list_len, journal, len).refusal == 0;
+    }
+    return accepted;
+}
+
+/* Patterns over two letters, and lists with no entry, one, and one for each byte. */
+static void test_every_journal(bool quick)
+{
+    static const size_t longest[] = {3, 4, 4, 4, 3};
+    uint8_t bytes[3];
+    size_t accepted = 0;
+    for (size_t m = 1; m <= (quick ? 2 : 3); m++)
+        for (size_t word = 0; word < words_of(m, 2); word++) {
+            put_word(bytes, m, 2, word);
+            poqewan_pattern pattern = prepare(bytes, m, POQEWAN_SCRATCH, 0).pattern;
+            for (size_t n = 0; n < (quick ? 3 : sizeof longest / sizeof *longest); n++)
+                for (size_t len = 0; len <= longest[n] - quick; len++)
+                    for (size_t list_len = 0; list_len <= n; list_len += list_len == 0 || n == 1 ? 1 : n - 1)
+                        accepted += check_every_journal(&pattern, n, list_len, len);
+        }
+    CHECK(accepted > 0);
+}
+
+/* The least value of a text byte, or the greatest, that answers all comparisons at a position as a course has them; or 256. */
+static unsigned value_at(const poqewan_pattern *pattern, const struct course *course, size_t position, bool greatest)
+{
+    for (unsigned i = 0; i < POQEWAN_CLASSES; i++) {
+        unsigned value = greatest ? POQEWAN_CLASSES - 1 - i : i;
+        size_t c = 0;
+        while (c < course->report.count &&
+               (course->journal[c] / 2 != position ||
+                equal(pattern, pattern->bytes[course->places[c]], (uint8_t)value) == (course->journal[c] % 2 == 1)))
+            c++;
+        if (c == course->report.count)
+            return value;
+    }
+    return POQEWAN_CLASSES;
+}
+
+/* Looks for texts that answer so. In these, poqewan_colussi with the journal's length for its cap must give the course's report and
+   list. Gives whether there are any. */
+static bool check_texts(const poqewan_pattern *pattern, size_t n, const struct course *course, size_t list_len)
+{
+    uint32_t *list = lend_list(list_len);
+    uint8_t *text = lend(n);
+    bool found = true;
+    for (int greatest = 0; greatest < 2 && found; greatest++) {
+        for (size_t x = 0; x < n; x++) {
+            unsigned value = value_at(pattern, course, x, greatest);
+            found = found && value < POQEWAN_CLASSES;
+            text[x] = (uint8_t)value;
+        }
+        if (found) {
+            poqewan_report r = poqewan_colussi(*pattern, text, n, course->report.count, list, list_len);
+            CHECK(is_like(r, course->report));
+            CHECK(same_entries(list, course->list, r.written));
+        }
+    }
+    free(text);
+    free(list);
+    return found;
+}
+
+/* How many journals are accepted: all, those that no text could have given, and those with each ending. */
+struct accepted {
+    size_t all, without_text, endings[POQEWAN_FULL + 1];
+};
+
+/* From a journal on that the rules accept, all that they accept: both answers to each comparison that is due. Each other entry is
+   refused there, and so is every entry after the end. The journal has room for all. */
+static void check_every_answer(const poqewan_pattern *pattern, size_t n, size_t list_len, uint32_t *journal, size_t len,
+                               struct accepted *accepted)
+{
+    struct course course = follow(pattern, NULL, journal, n, len, list_len);
+    poqewan_report r = course.report;
+    size_t due = course.due;
+    CHECK(is_like(check_replay(pattern, n, list_len, journal, len), r));
+    accepted->all++;
+    accepted->without_text += !check_texts(pattern, n, &course, list_len);
+    accepted->endings[r.ending]++;
+    free_course(course);
+    for (size_t number = 0; number < CHOICES(n); number++) {
+        journal[len] = choice(n, number);
+        if (r.ending == POQEWAN_SPENT && journal[len] / 2 == due)
+            check_every_answer(pattern, n, list_len, journal, len + 1, accepted);
+        else
+            CHECK(check_replay(pattern, n, list_len, journal, len + 1).refusal == POQEWAN_FALSE_JOURNAL);
+    }
+}
+
+/* For some patterns, and some that have journals without a text. */
+static void test_every_answer(bool quick)
+{
+    static const struct {
+        const uint8_t *classes;
+        const char *pattern;
+        size_t n;
+        bool without_text;
+    } asked[] = {
+        {own, "a", 4, false},      {own, "aba", 5, false},   {joined, "aCb", 5, false}, {own, "abaa", 7, true},
+        {own, "aabaa", 7, false},  {own, "abab", 7, false},  {own, "aab", 6, false},    {own, "abaaa", 8, true},
+        {joined, "bAcb", 7, true}, {own, "aaaa", 7, false},
+    };
+    for (size_t i = 0; i < (quick ? 4 : sizeof asked / sizeof *asked); i++) {
+        poqewan_pattern pattern = prepared_by(asked[i].classes, asked[i].pattern);
+        struct accepted accepted = {0};
+        uint32_t journal[24];
+        for (size_t list_len = 0; list_len <= (quick ? 1 : 2); list_len++)
+            check_every_answer(&pattern, asked[i].n, list_len, journal, 0, &accepted);
+        CHECK((accepted.without_text > 0) == asked[i].without_text && accepted.without_text < accepted.all);
+        CHECK(accepted.endings[POQEWAN_DONE] > 0 && accepted.endings[POQEWAN_SPENT] > 0 && accepted.endings[POQEWAN_FULL] > 0);
+    }
+}
+
+/* Patterns of every length by drawn classes, in texts of their pieces: whole, and with a cap, a list and a journal drawn by lot, so
+   that all endings are met; and with some entries changed. */
+static void test_random_journals(size_t rounds)
+{
+    size_t endings[3] = {0}, refused = 0;
+    for (size_t round = 0; round < rounds; round++) {
+        poqewan_pattern pattern = random_power(round);
+        size_t n = random_below(3 * pattern.len + 8), most = most_entries(pattern.len, n);
+        uint8_t *text = lend_pieces(&pattern, n);
+        poqewan_report whole = check_journaled(&pattern, text, n, most, n + 1, most);
+        CHECK(whole.ending == POQEWAN_DONE);
+        for (int times = 0; times < 4; times++) {
+            size_t cap = random_below(2) ? most : random_below((size_t)whole.count + 2), list_len = random_below(whole.written + 2);
+            size_t journal_len = random_below(8) > 0 || cap == 0 ? cap + random_below(3) : random_below(cap);
+            poqewan_report r = check_journaled(&pattern, text, n, cap, list_len, journal_len);
+            refused += r.refusal == POQEWAN_SHORT_JOURNAL;
+            CHECK(r.ending <= POQEWAN_FULL);
+            endings[r.ending <= POQEWAN_FULL ? r.ending : 0] += r.refusal == 0;
+        }
+        check_changed_journals(&pattern, text, n, 1 + (size_t)whole.count / 4);
+        free(text);
+    }
+    CHECK(refused > 0 && endings[POQEWAN_DONE] > 0 && endings[POQEWAN_SPENT] > 0 && endings[POQEWAN_FULL] > 0);
+}
+
+/* Each value as a pattern of one byte, in a text of all values: it is equal to itself alone, and each position has an entry. */
+static void test_journal_of_each_value(void)
+{
+    uint8_t *text = lend_bytes(own, POQEWAN_CLASSES);
+    for (unsigned value = 1; value < POQEWAN_CLASSES; value++) {
+        uint8_t byte = (uint8_t)value;
+        uint32_t list, journal[POQEWAN_CLASSES];
+        poqewan_pattern pattern = prepare(&byte, 1, POQEWAN_SCRATCH, 0).pattern;
+        const size_t n = POQEWAN_CLASSES;
+        poqewan_report r = poqewan_journaled(pattern, text, n, n, &list, 1, journal, n);
+        CHECK(is_report(r, POQEWAN_DONE, 0, (struct counts){n, 0, n}, 1));
+        bool right = list == value;
+        for (unsigned x = 0; x < n; x++)
+            right = right && journal[x] == 2 * x + (x == value);
+        CHECK(right);
+    }
+    free(text);
+}
+
+/* Entries, positions and counts past 2^16: aa in a^n has an occurrence in each window, and ab a miss. */
+static void test_journals_past_16_bits(void)
+{
+    static const char *const patterns[] = {"aa", "ab"};
+    const size_t n = 65536 + 300;
+    uint8_t *text = lend(n);
+    memset(text, 'a', n);
+    for (size_t i = 0; i < 2; i++) {
+        poqewan_pattern pattern = prepared(patterns[i]);
+        size_t most = most_entries(2, n), count = i == 0 ? n : n - 1;
+        poqewan_report r = check_journaled(&pattern, text, n, most, n, most);
+        CHECK(is_report(r, POQEWAN_DONE, 0, (struct counts){count, i == 0 ? 0 : count, i == 0 ? count : 0}, i == 0 ? n - 1 : 0));
+        CHECK(check_journaled(&pattern, text, n, count, n - 1, count).ending == POQEWAN_DONE);
+        CHECK(check_journaled(&pattern, text, n, count - 1, n - 1, count).ending == POQEWAN_SPENT);
+        CHECK(check_journaled(&pattern, text, n, count, n - 2, count).ending == (i == 0 ? POQEWAN_FULL : POQEWAN_DONE));
+        /* A journal whose number is right in its lower half alone. */
+        CHECK(check_journaled(&pattern, text, n, count, n - 1, count % 65536).refusal == POQEWAN_SHORT_JOURNAL);
+    }
+    free(text);
+}
+
+/* The search with a journal must refuse with this number and leave list, journal and text as they are. The text is a^n. */
+static void check_refused_journaled(const poqewan_pattern *pattern, const uint8_t *text, size_t n, uint64_t cap, size_t journal_len,
+                                    uint32_t number)
+{
+    uint32_t *list = lend_guarded(4), *journal = lend_guarded(journal_len);
+    CHECK(is_refusal(poqewan_journaled(*pattern, text, n, cap, list, 4, journal, journal_len), number));
+    CHECK(unwritten(list, 0, 4) && unwritten(journal, 0, journal_len));
+    CHECK(how_often('a', text, n) == n);
+    free_guarded(journal, journal_len);
+    free_guarded(list, 4);
+}
+
+static void check_refused_replay(const poqewan_pattern *pattern, size_t n, const uint32_t *journal, size_t len, uint32_t number)
+{
+    uint32_t *list = lend_guarded(4), *lent = lend_entries(journal, len);
+    CHECK(is_refusal(poqewan_replay(*pattern, n, list, 4, lent, len), number));
+    CHECK(unwritten(list, 0, 4) && same_entries(lent, journal, len));
+    free(lent);
+    free_guarded(list, 4);
+}
+
+/* Every choice of the three conditions of either function, with journals that are short by one entry, by all, and by more than any
+   has; and with such as have a false first entry, a false last one, and one too many: the first condition, in the order of the
+   tests, is what is told. In a^5 each window of ab has a miss at place 1. */
+static void test_order_of_journal_tests(void)
+{
+    enum { IS_FALSE = 1, IS_LONG = 2, NO_JOURNAL = 4, ALL = 7 };
+    static const uint32_t of_search[] = {4, 5, 17}, of_replay[] = {4, 5, 18};
+    static const struct {
+        uint64_t cap;
+        size_t len;
+    } shorts[] = {{1, 0}, {5, 4}, {4, 0}, {UINT64_MAX, 0}, {UINT64_MAX, 4}, {UINT64_C(1) << 32, 4}};
+    static const struct {
+        size_t len;
+        uint32_t entries[5];
+    } wrongs[] = {{1, {4}}, {4, {3, 4, 6, 8}}, {4, {2, 4, 6, 10}}, {5, {2, 4, 6, 8, 9}}, {2, {2, UINT32_MAX}}};
+    static const uint32_t right[] = {2, 4, 6, 8};
+    poqewan_pattern pattern = prepared("ab"), wrong = pattern;
+    wrong.noholes++;
+    for (int is_long = 0; is_long <= IS_LONG; is_long += IS_LONG) {
+        size_t n = is_long ? POQEWAN_LONGEST_TEXT + 1 : 5;
+        uint8_t *text = lend(n);
+        memset(text, 'a', n);
+        for (int chosen = 1; chosen <= ALL; chosen++) {
+            if ((chosen & IS_LONG) != is_long)
+                continue;
+            const poqewan_pattern *asked = chosen & IS_FALSE ? &wrong : &pattern;
+            uint32_t searched = first_chosen(chosen, of_search), replayed = first_chosen(chosen, of_replay);
+            if (chosen & NO_JOURNAL) {
+                for (size_t i = 0; i < sizeof shorts / sizeof *shorts; i++)
+                    check_refused_journaled(asked, text, n, shorts[i].cap, shorts[i].len, searched);
+                for (size_t i = 0; i < sizeof wrongs / sizeof *wrongs; i++)
+                    check_refused_replay(asked, n, wrongs[i].entries, wrongs[i].len, replayed);
+            } else {
+                check_refused_journaled(asked, text, n, 4, 4, searched);
+                check_refused_replay(asked, n, right, 4, replayed);
+            }
+        }
+        if (!is_long) {
+            CHECK(is_report(check_journaled(&pattern, text, n, 4, 4, 4), POQEWAN_DONE, 0, (struct counts){4, 4, 0}, 0));
+            CHECK(is_report(check_replay(&pattern, n, 4, right, 4), POQEWAN_DONE, 0, (struct counts){4, 4, 0}, 0));
+        }
+        free(text);
+    }
+}
+
+/* In a text of the greatest length: the longest pattern, of one letter, differs at its last place in each window but the last,
+   where it occurs, so that a journal of some thousand entries reaches the last position. One byte more, and numbers that no text
+   has, are refused by the replay; with one byte less the window of the occurrence is not there, and its entries are too many. */
+static void test_journal_of_longest_text(void)
+{
+    const size_t n = POQEWAN_LONGEST_TEXT, m = POQEWAN_LONGEST_PATTERN, misses = n / m - 1, count = misses + m;
+    static const size_t too_long[] = {POQEWAN_LONGEST_TEXT + 1, UINT32_MAX,     (size_t)1 << 32,
+                                      SIZE_MAX / 2 + 1,         SIZE_MAX - 255, SIZE_MAX};
+    uint8_t *text = lend(n);
+    uint32_t *list = lend_list(2), *journal = lend_list(count);
+    memset(text, 0, n);
+    memset(text + n - m, 'a', m);
+    poqewan_pattern pattern = prepare(text + n - m, m, POQEWAN_SCRATCH, 0).pattern;
+    CHECK(is_refusal(poqewan_journaled(pattern, text, n, count + 1, list, 2, journal, count), POQEWAN_SHORT_JOURNAL));
+    CHECK(is_refusal(poqewan_journaled(pattern, text, n, UINT64_MAX, list, 2, journal, count), POQEWAN_SHORT_JOURNAL));
+    CHECK(unwritten(list, 0, 2) && unwritten(journal, 0, count));
+    poqewan_report r = poqewan_journaled(pattern, text, n, count, list, 2, journal, count);
+    CHECK(is_report(r, POQEWAN_DONE, 0, (struct counts){count, 0, count}, 1));
+    CHECK(list[0] == n - m && unwritten(list, 1, 2));
+    size_t right = 0;
+    while (right < count && journal[right] == (right < misses ? 2 * (m * right + m - 1) : 2 * (n - 1 - (right - misses)) + 1))
+        right++;
+    CHECK(right == count && journal[misses] == UINT32_C(33554431));
+
+    list[0] = UNWRITTEN;
+    CHECK(is_like(poqewan_replay(pattern, n, list, 2, journal, count), r));
+    CHECK(list[0] == n - m && unwritten(list, 1, 2));
+    list[0] = UNWRITTEN;
+    CHECK(is_report(poqewan_replay(pattern, n, list, 2, journal, count - 1), POQEWAN_SPENT, n - m,
+                    (struct counts){count - 1, 0, count - 1}, 0));
+    CHECK(is_report(poqewan_replay(pattern, n - 1, list, 2, journal, misses), POQEWAN_DONE, 0,
+                    (struct counts){misses, 0, misses}, 0));
+    CHECK(is_refusal(poqewan_replay(pattern, n - 1, list, 2, journal, count), POQEWAN_FALSE_JOURNAL));
+    for (size_t i = 0; i < sizeof too_long / sizeof *too_long; i++)
+        for (size_t len = 0; len <= count; len += count) {
+            CHECK(is_refusal(poqewan_replay(pattern, too_long[i], list, 2, journal, len), POQEWAN_LONG_TEXT));
+            CHECK(is_refusal(poqewan_replay(pattern, too_long[i], NULL, 0, NULL, 0), POQEWAN_LONG_TEXT));
+        }
+    journal[count - 1] += 2;
+    CHECK(is_refusal(poqewan_replay(pattern, n, list, 2, journal, count), POQEWAN_FALSE_JOURNAL));
+    CHECK(unwritten(list, 0, 2));
+    free(journal);
+    free(list);
+    free(text);
+}
+
+/* Numbers past 2^32: caps, journals and lists that are short or empty by their lower half alone. They are addresses without memory:
+   only the first entries are touched. Where a system grants no such addresses, it says so and goes on. */
+static void test_numbers_past_32_bits(void)
+{
+    const size_t past = (size_t)1 << 32, bytes = (past + 5) * sizeof(uint32_t);
+    const struct counts counts = {5, 2, 3};
+    static const uint32_t positions[] = {0, 2}, expected[] = {3, 5, 1, 7, 9};
+    uint32_t *lent[2];
+    for (int i = 0; i < 2; i++) {
+        lent[i] = mmap(NULL, bytes, PROT_READ | PROT_WRITE, MAP_PRIVATE | MAP_ANONYMOUS | MAP_NORESERVE, -1, 0);
+        if (lent[i] == MAP_FAILED) {
+            puts("no addresses for numbers past 2^32, which are not tested");
+            if (i == 1)
+                munmap(lent[0], bytes);
+            return;
+        }
+    }
+    uint8_t *text = lend_bytes("ababa", 5);
+    uint32_t *list = lent[0], *journal = lent[1];
+    poqewan_pattern pattern = prepared("aba");
+    for (size_t cap = 5; cap <= past; cap += past - 5) {
+        CHECK(is_report(poqewan_journaled(pattern, text, 5, cap, list, past, journal, past), POQEWAN_DONE, 0, counts, 2));
+        CHECK(same_entries(list, positions, 2) && same_entries(journal, expected, 5) && journal[5] == 0);
+        memset(list, 0xA5, 2 * sizeof *list);
+        memset(journal, 0xA5, 5 * sizeof *journal);
+    }
+    CHECK(is_refusal(poqewan_journaled(pattern, text, 5, past + 6, list, past, journal, past + 5), POQEWAN_SHORT_JOURNAL));
+    CHECK(unwritten(list, 0, 2) && unwritten(journal, 0, 5));
+    memcpy(journal, expected, sizeof expected);
+    CHECK(is_refusal(poqewan_replay(pattern, 5, list, past, journal, past), POQEWAN_FALSE_JOURNAL));
+    CHECK(is_refusal(poqewan_replay(pattern, 5, list, past, journal, past + 5), POQEWAN_FALSE_JOURNAL));
+    CHECK(unwritten(list, 0, 2) && list[2] == 0);
+    CHECK(is_report(poqewan_replay(pattern, 5, list, past, journal, 5), POQEWAN_DONE, 0, counts, 2));
+    CHECK(same_entries(list, positions, 2) && list[2] == 0);
+    free(text);
+    for (int i = 0; i < 2; i++)
+        munmap(lent[i], bytes);
+}
+
 /* The searches of one record of an archive, in the order of those above. */
 typedef poqewan_report record_function(poqewan_pattern, const uint8_t *, size_t, uint64_t, uint64_t, uint32_t *, size_t);
 static record_function *const record_searches[] = {poqewan_colussi_record, poqewan_kmp_record};
@@ -3001,6 +3839,17 @@ int main(int argc, char **argv)
     test_order_of_ordered_tests();
     test_orders_past_16_bits();
     test_orders_of_longest_text(quick);
+    test_worked_journals();
+    test_worked_replays();
+    test_all_journals(quick);
+    test_every_journal(quick);
+    test_every_answer(quick);
+    test_random_journals(quick ? 64 : 1024);
+    test_journal_of_each_value();
+    test_journals_past_16_bits();
+    test_order_of_journal_tests();
+    test_journal_of_longest_text();
+    test_numbers_past_32_bits();
     test_worked_archive();
     test_worked_records_in_archives();
     test_layouts();

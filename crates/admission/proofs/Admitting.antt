@@ -10,8 +10,9 @@ use Rattle.checked.specs.Check.{isPrepared}
 use Rattle.pattern.specs.declared.Pattern.{Pattern}
 use Rattle.checked.proofs.Checked.{is-prepared}
 use Rattle.refusal.specs.Unless.{unless}
+use Rattle.refusal.specs.declared.Refusal.{Refusal}
 use Rattle.refusal.specs.declared.Refusal.the-variants.{FalsePattern, LongText}
-use Rattle.admission.specs.Admitted.{longestText, judged, admitted, IsAdmitted}
+use Rattle.admission.specs.Admitted.{longestText, judged, admitted, alsoJudged, IsAdmitted}
 use Rattle.admission.specs.declared.Admission.{Admission}
 use Rattle.admission.specs.declared.Admission.the-variants.{Admitted, Refused}
 
@@ -45,6 +46,33 @@ judged-is prepared n e = let h = both-pass prepared (leb n longestText) e in (h 
 pub answers : (prepared : Bool) (n : ℕ) {r : Admission} → r ≡ judged prepared n
     → (r ≡ judged prepared n) × ((r ≡ Admitted) ↔ ((prepared ≡ true) × (n ≤ longestText)))
 answers prepared n e = (e, rw e (judged-is prepared n, λ h. lets-in n (h .0) (h .1)))
+
+-- ---- One test more
+
+module _ {a : Admission} (passes : Bool) (why : Refusal) where
+  pub refused-before : {first : Refusal} → a ≡ Refused first → alsoJudged a passes why ≡ Refused first
+  unfolding alsoJudged
+  refused-before e = rw (e, alsoJudged) refl
+
+  pub refused-then : a ≡ Admitted → passes ≡ false → alsoJudged a passes why ≡ Refused why
+  unfolding alsoJudged
+  refused-then e f = rw (e, f, alsoJudged) refl
+
+  pub lets-in-then : a ≡ Admitted → passes ≡ true → alsoJudged a passes why ≡ Admitted
+  unfolding alsoJudged
+  lets-in-then e f = rw (e, f, alsoJudged) refl
+
+-- Who passes gets the answer of the tests before.
+pub as-before : (a : Admission) {passes : Bool} (why : Refusal) → passes ≡ true → alsoJudged a passes why ≡ a
+as-before Admitted {passes} why e = lets-in-then passes why refl e
+as-before (Refused first) {passes} why e = refused-before passes why refl
+
+-- Who is let in passes all.
+pub passes-all : (a : Admission) (passes : Bool) (why : Refusal) → alsoJudged a passes why ≡ Admitted → (a ≡ Admitted) × (passes ≡ true)
+unfolding alsoJudged
+passes-all Admitted true why e = (refl, refl)
+passes-all Admitted false why e = absurd (let z : _≡_ {A = ℕ} 0 1 = cc in omega arith)
+passes-all (Refused first) passes why e = absurd (let z : _≡_ {A = ℕ} 0 1 = cc in omega arith)
 
 -- ---- A pattern at the door
 

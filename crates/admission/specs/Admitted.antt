@@ -5,6 +5,7 @@ use lib.Dec.{leb}
 use Rattle.checked.specs.Check.{isPrepared, IsPrepared}
 use Rattle.pattern.specs.declared.Pattern.{Pattern}
 use Rattle.refusal.specs.Unless.{unless}
+use Rattle.refusal.specs.declared.Refusal.{Refusal}
 use Rattle.refusal.specs.declared.Refusal.the-variants.{FalsePattern, LongText}
 use Rattle.admission.specs.declared.Admission.{Admission}
 use Rattle.admission.specs.declared.Admission.the-variants.{Admitted, Refused}
@@ -22,6 +23,10 @@ judged prepared n = unless prepared (Refused FalsePattern) (unless (leb n longes
 unfoldable pub admitted : Pattern → ℕ → Admission
 unfolding isPrepared judged
 admitted p n = judged (isPrepared p) n
+
+-- One test more, of who is let in so far, with the refusal of who does not pass it.
+unfoldable pub alsoJudged : Admission → Bool → Refusal → Admission
+alsoJudged a passes why = elim a [ Admitted ↦ unless passes (Refused why) Admitted | Refused first ↦ Refused first ]
 
 -- In plain terms.
 pub record IsAdmitted (p : Pattern) (n : ℕ) : Type 0 where

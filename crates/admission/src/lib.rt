@@ -1,10 +1,10 @@
-// The door of every search: the two tests that each of them makes first, in one place.
+// The door of every search: the two tests that each of them makes first, in one place, and one that some make after them.
 use refusal::Refusal;
 ghost use mathlib.Core.Path.{_≡_};
 ghost use mathlib.Core.Bool.{true};
 ghost use mathlib.Core.Logic.{_↔_};
 ghost use Prim.Native.Nat.{_≤_};
-ghost use Rattle.admission.specs.Admitted.{longestText, judged};
+ghost use Rattle.admission.specs.Admitted.{longestText, judged, alsoJudged};
 
 // Document 01's longest record: 2^24 bytes.
 pub const LONGEST_TEXT: usize = 16777216;
@@ -27,4 +27,20 @@ pub fn admit(prepared: bool, n: usize) -> Admission
         return Admission::Refused(Refusal::LongText);
     }
     Admission::Admitted
+}
+
+// One test more, of who is let in so far: the refusal of who does not pass it.
+pub fn also(door: Admission, passes: bool, why: Refusal) -> Admission
+    ensures answer { λ r. ⌜ r ≡ alsoJudged door passes why ⌝ }
+{
+    match door {
+        Admission::Admitted => {
+            if passes {
+                Admission::Admitted
+            } else {
+                Admission::Refused(why)
+            }
+        }
+        Admission::Refused(first) => Admission::Refused(first),
+    }
 }

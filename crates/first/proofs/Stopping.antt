@@ -13,7 +13,8 @@ use Rattle.rules.specs.declared.Ending.{Ending}
 use Rattle.rules.specs.declared.Ending.the-variants.{Done, Spent, Full}
 use Rattle.rules.proofs.Rules.{Moving}
 use Rattle.rules.proofs.Runs.{turn-later, larger-cap, UntilFull, until-full}
-use Rattle.rules.proofs.ColussiMethod.{method, colussi-finds, colussi-ceiling}
+use Rattle.rules.proofs.ColussiMethod.{method, colussi-finds}
+use Rattle.rules.proofs.ColussiCeiling.{colussi-ceiling}
 use Rattle.rules.proofs.Uncapped.{never-spent, uncapped}
 use Rattle.first.specs.Answer.{firstAt}
 use Rattle.first.specs.Promise.{AtOrAbsent, FirstEntry, NoEntry, FirstOfFull, FirstUnderCeiling}

@@ -6,11 +6,13 @@ use mathlib.Core.List.{List}
 use native.Mathlib.Numerals.{add-one}
 use native.Mathlib.Omega.{arith}
 use lib.ListN.{length, getD, set}
+use borrow.Author.Tests.{eq-eqb, ne-eqb}
 use Rattle.words.specs.Tables.{letter, nohole}
 use Rattle.columns.specs.Ended.{endedWith}
 use Rattle.custom.specs.Custom.{custom-shift, custom-plan, custom}
 use Rattle.custom.proofs.Shifts.{shift-moves}
 use Rattle.custom.proofs.CustomMethod.{edge-stays, custom-ranges}
+use Rattle.rules.specs.Rules.{text-source}
 use Rattle.rules.specs.Internal.Passing.{Due}
 use Rattle.rules.specs.Report.{Reported}
 use Rattle.rules.specs.declared.Ending.{Ending}
@@ -24,12 +26,12 @@ use Rattle.ordered.proofs.Among.{among-none, among-more}
 -- The scan stands at rank 0 of window b, with so much left of the cap and q comparisons made at noholes.
 pub record InOrder (w order text : List ℕ) (cap : ℕ) (before after : List ℕ) (b left q k : ℕ) : Type 0 where
   pub within : left ≤ cap
-  pub scans : Scans (nohole w) (custom-plan order w) w text cap before after b 0 0 (cap - left) q k
+  pub scans : Scans (nohole w) (custom-plan order w) (text-source w text) cap before after b 0 0 (cap - left) q k
 
 pub in-order-start : (w order text : List ℕ) (cap : ℕ) (before : List ℕ) → InOrder w order text cap before before 0 cap 0 0
 in-order-start w order text cap before = record {
   within = omega arith;
-  scans = scans-as (scans-start (nohole w) (custom-plan order w) w text cap before) (omega arith) refl;
+  scans = scans-as (scans-start (nohole w) (custom-plan order w) (text-source w text) cap before) (omega arith) refl;
 }
 
 module _ (w order shifts among : List ℕ) (T : LentTables w order shifts among) {text : List ℕ} {cap : ℕ} {before after : List ℕ} {b left q k : ℕ}
@@ -51,7 +53,7 @@ module _ (w order shifts among : List ℕ) (T : LentTables w order shifts among)
 
   pub scan-done : length text < b + length w → Ends Done left q
   unfolding custom
-  scan-done l = scans-done _ _ _ text cap before R (F .scans) (by-noholes w (F .scans .made) (F .scans .count) (F .scans .column)) l
+  scan-done l = scans-done _ _ _ cap before R (F .scans) (by-noholes w (F .scans .made) (F .scans .count) (F .scans .column)) l
 
   module _ (fits : b + length w ≤ length text) where
     -- Rank i agrees.
@@ -63,11 +65,11 @@ module _ (w order shifts among : List ℕ) (T : LentTables w order shifts among)
 
     -- The first i ranks agree, and the cap allows to compare them.
     at-rank : (i : ℕ) → i ≤ length w → i ≤ left → ((j : ℕ) → j < i → Agrees j)
-        → Scans (nohole w) (custom-plan order w) w text cap before after b i 0 (cap - (left - i)) (q + noholes-among w order i) k
+        → Scans (nohole w) (custom-plan order w) (text-source w text) cap before after b i 0 (cap - (left - i)) (q + noholes-among w order i) k
     at-rank zero l room agree = scans-as (F .scans) (omega arith) (omega (arith, among-none w order))
     at-rank (suc i) l room agree = scans-as
-        (scans-matched (nohole w) (custom-plan order w) w text cap before R (at-rank i (omega arith) (omega arith) (λ j h. agree j (omega arith)))
-        fits (due i l) (λ z. omega (arith, F .within)) (omega (arith, among-more w order i)) (agree i (omega arith)))
+        (scans-matched (nohole w) (custom-plan order w) (text-source w text) cap before R (at-rank i (omega arith) (omega arith) (λ j h. agree j (omega arith)))
+        fits (due i l) (λ z. omega (arith, F .within)) (omega (arith, among-more w order i)) (eq-eqb _ _ (agree i (omega arith))))
         (omega (arith, F .within)) refl
 
     -- The window is left with rank r, which misses.
@@ -80,14 +82,14 @@ module _ (w order shifts among : List ℕ) (T : LentTables w order shifts among)
         record {
           within = omega (arith, F .within);
           scans = scans-as
-              (rw (edge, ← shift) at (scans-missed (nohole w) (custom-plan order w) w text cap before R (at-rank r (omega arith) (omega arith) agree)
-              fits (due r rank) (λ z. omega (arith, F .within)) {x' = q + noholes-among w order (suc r)} (omega (arith, among-more w order r)) differ))
+              (rw (edge, ← shift) at (scans-missed (nohole w) (custom-plan order w) (text-source w text) cap before R (at-rank r (omega arith) (omega arith) agree)
+              fits (due r rank) (λ z. omega (arith, F .within)) {x' = q + noholes-among w order (suc r)} (omega (arith, among-more w order r)) (ne-eqb _ _ differ)))
               (omega (arith, F .within)) (ap (λ n. q + n) column);
         }
 
     pub scan-spent : left ≡ 0 → Ends (Spent b) left q
     unfolding custom
-    scan-spent none = scans-spent _ _ _ text cap before R (F .scans) (by-noholes w (F .scans .made) (F .scans .count) (F .scans .column))
+    scan-spent none = scans-spent _ _ _ cap before R (F .scans) (by-noholes w (F .scans .made) (F .scans .count) (F .scans .column))
         fits (due 0 (T .some)) (omega (arith, F .within))
 
     -- Rank 0 agrees, and the others up to r.
@@ -106,7 +108,7 @@ module _ (w order shifts among : List ℕ) (T : LentTables w order shifts among)
 
       -- The comparisons that the cap allows agree.
       module _ (all : end ≤ r) {v : ℕ} (counted : v ≡ getD among r 0) where
-        reached : Scans (nohole w) (custom-plan order w) w text cap before after b r 0 (cap - (left - r)) (q + v) k
+        reached : Scans (nohole w) (custom-plan order w) (text-source w text) cap before after b r 0 (cap - (left - r)) (q + v) k
         reached = scans-as (at-rank r (omega (arith, N .upto)) (omega (arith, N .upto)) agreed) refl
             (ap (λ n. q + n) (counted ∙ T .among-at r (omega (arith, N .upto))))
 
@@ -118,12 +120,12 @@ module _ (w order shifts among : List ℕ) (T : LentTables w order shifts among)
 
         pub scan-cut : r < length w → Ends (Spent b) (left - r) (q + v)
         unfolding custom
-        scan-cut l = scans-spent _ _ _ text cap before R reached columns fits (due r l) (omega (arith, N .upto, F .within))
+        scan-cut l = scans-spent _ _ _ cap before R reached columns fits (due r l) (omega (arith, N .upto, F .within))
 
         module _ (whole : length w ≤ r) where
           pub scan-full : k ≡ length after → Ends (Full b) (left - r) (q + v)
           unfolding custom
-          scan-full full = scans-full _ _ _ text cap before R reached columns fits (inl whole) full
+          scan-full full = scans-full _ _ _ cap before R reached columns fits (inl whole) full
 
           -- The window is stored, as y, and left by the shift s.
           pub scan-listed : (k ≡ length after → ⊥) → {y : ℕ} → y ≡ b → {s : ℕ} → s ≡ getD shifts (length w) 0
@@ -134,7 +136,7 @@ module _ (w order shifts among : List ℕ) (T : LentTables w order shifts among)
               record {
                 within = omega (arith, F .within);
                 scans = rw stored
-                    (rw (edge, ← shift) at (scans-listed (nohole w) (custom-plan order w) w text cap before R reached fits (inl whole) free));
+                    (rw (edge, ← shift) at (scans-listed (nohole w) (custom-plan order w) (text-source w text) cap before R reached fits (inl whole) free));
               }
 
 -- A text without a window: the search is done before it begins.

@@ -11,7 +11,8 @@ use carried::outcome_number;
 use pattern::Pattern;
 ghost use mathlib.Core.Path.{_≡_};
 ghost use mathlib.Core.Logic.{_↔_};
-ghost use Prim.Native.Nat.{_+_, _*_, _≤_, _<_};
+ghost use mathlib.Core.List.{List};
+ghost use Prim.Native.Nat.{ℕ, _+_, _*_, _≤_, _<_};
 ghost use lib.ListN.{length};
 ghost use Rattle.carried.specs.Carried.{carriedPreparation, carried, reportIn, carriedFirst, firstIn, carriedLengths};
 ghost use Rattle.charge.specs.Charged.{charged};
@@ -22,16 +23,26 @@ ghost use Rattle.first.specs.Promise.{FirstOfFull, FirstInBytes, FirstUnderCeil
 ghost use Rattle.intake.specs.Sizes.{scratchSize};
 ghost use Rattle.intake.specs.Outcomes.{Preparable, Usable};
 ghost use Rattle.hmax.specs.FastMethod.{FewCompared};
+ghost use Rattle.journal.specs.Journal.{journalOf};
+ghost use Rattle.journal.specs.Replay.{replayed};
+ghost use Rattle.journaled.specs.Answer as journals;
+ghost use Rattle.journaled.specs.Promise.{Recorded};
 ghost use Rattle.lengths.specs.Answer.{answerOf, listOf, plainAnswerOf, plainListOf};
 ghost use Rattle.lengths.specs.Promise.{EachLongest, WholeWhere};
 ghost use Rattle.ordered.specs.Answer as orders;
 ghost use Rattle.pattern.specs.Letters.{ownBytes, wordOf, textOf};
 ghost use Rattle.preparation.specs.Prepared.{prepared, plainPrepared, scratchAfter, plainScratch, Cleared};
 ghost use Rattle.prefixes.specs.Promise.{FewFor, AsKmp};
+ghost use Rattle.refusal.specs.Numbers.{numberOf};
+ghost use Rattle.refusal.specs.declared.Refusal.the-variants.{FalseJournal};
+ghost use Rattle.replay.specs.Answer as replays;
+ghost use Rattle.replay.specs.Promise.{Whole};
+ghost use Rattle.rules.specs.Answered.{Answered};
 ghost use Rattle.rules.specs.Colussi.{colussi};
 ghost use Rattle.rules.specs.Kmp.{kmp};
 ghost use Rattle.rules.specs.Occurs.{occurrences};
 ghost use Rattle.rules.specs.Report.{Columns};
+ghost use Rattle.rules.specs.Rules.{text-source};
 ghost use Rattle.search.specs.Answer.{answerBy, listBy, plainAnswerBy, plainListBy};
 ghost use Rattle.search.specs.Promise.{Located, ListedBy, UnderCeiling, UnderKmpCeiling, AsColussi, NoZeroCovered};
 
@@ -137,6 +148,57 @@ pub extern "C" fn poqewan_ordered<'a>(
     ensures plain { λ r. ⌜ (pattern .classes ≡ identity → (r ≡ carried (orders.plainAnswerOf pattern (now (order .entry)) (now (text .entry)) cap (length (now (positions .entry))))) × (now (positions .exit) ≡ orders.plainListOf pattern (now (order .entry)) (now (text .entry)) cap (now (positions .entry)))) ⌝ }
 {
     carry(ordered::ordered(pattern, order, text, cap, positions))
+}
+
+// Searches a text in Colussi's order, with at most `cap` comparisons, and writes an entry of the journal for each: twice its position in the text,
+// plus 1 if equal. The entries past the count are unchanged. Report, endings and list are those of `poqewan_colussi`. Refused, in this order, with
+// list and journal unchanged: a pattern that is not what preparation gives for its own length, bytes and classes (4), a text that is longer than the
+// longest (5), a journal that is shorter than the cap (17).
+#[no_mangle]
+pub extern "C" fn poqewan_journaled(
+    pattern: Pattern,
+    text: &[u8],
+    cap: u64,
+    positions: &mut [u32],
+    journal: &mut [u32],
+) -> SearchReport
+    ensures answer { λ r. ⌜ r ≡ carried (journals.answerOf pattern (now (text .entry)) cap (length (now (positions .entry))) (length (now (journal .entry)))) ⌝ }
+    ensures list { λ r. ⌜ now (positions .exit) ≡ journals.listOf pattern (now (text .entry)) cap (length (now (journal .entry))) (now (positions .entry)) ⌝ }
+    ensures journal { λ r. ⌜ now (journal .exit) ≡ journals.journalIn pattern (now (text .entry)) cap (length (now (positions .entry))) (now (journal .entry)) ⌝ }
+    ensures same { λ r. ⌜ (cap ≤ length (now (journal .entry)) → (r ≡ carried (answerBy colussi pattern (now (text .entry)) cap (length (now (positions .entry))))) × (now (positions .exit) ≡ listBy colussi pattern (now (text .entry)) cap (now (positions .entry)))) ⌝ }
+    ensures entries { λ r. ⌜ (r .refusal ≡ 0 → Recorded (colussi (wordOf pattern) (textOf pattern (now (text .entry))) cap (length (now (positions .entry))) .last .made) (now (journal .entry)) (now (journal .exit)) (reportIn r)) ⌝ }
+    ensures accurate { λ r. ⌜ (r .refusal ≡ 0 → Located colussi (wordOf pattern) (textOf pattern (now (text .entry))) cap (now (positions .exit)) (reportIn r)) ⌝ }
+    ensures classed { λ r. ⌜ (r .refusal ≡ 0 → ListedBy (pattern .classes) (ownBytes pattern) (now (text .entry)) (now (positions .exit)) (reportIn r)) ⌝ }
+    ensures columns { λ r. ⌜ (r .refusal ≡ 0 → Columns (wordOf pattern) (colussi (wordOf pattern) (textOf pattern (now (text .entry))) cap (length (now (positions .entry))) .last .made) (reportIn r)) ⌝ }
+    ensures ceiling { λ r. ⌜ (r .refusal ≡ 0 → UnderCeiling (length (wordOf pattern)) (length (now (text .entry))) (reportIn r)) ⌝ }
+    ensures zeros { λ r. ⌜ (r .refusal ≡ 0 → NoZeroCovered (length (wordOf pattern)) (now (text .entry)) (now (positions .exit)) (reportIn r)) ⌝ }
+    ensures plain { λ r. ⌜ (pattern .classes ≡ identity → (r ≡ carried (journals.plainAnswerOf pattern (now (text .entry)) cap (length (now (positions .entry))) (length (now (journal .entry))))) × (now (positions .exit) ≡ journals.plainListOf pattern (now (text .entry)) cap (length (now (journal .entry))) (now (positions .entry))) × (now (journal .exit) ≡ journals.plainJournalIn pattern (now (text .entry)) cap (length (now (positions .entry))) (now (journal .entry)))) ⌝ }
+{
+    carry(journaled::journaled(pattern, text, cap, positions, journal))
+}
+
+// Follows the search for a pattern in a text of n bytes by a journal of its comparisons, without the text: an odd entry says that they were equal. Where
+// the journal runs out while a comparison is due, the ending is spent. Report and list are those of `poqewan_colussi`, capped at the journal's length, on
+// any text of n bytes that answers those comparisons so. Refused, in this order, with the list unchanged: a pattern that is not what preparation gives
+// for its own length, bytes and classes (4), a text that is longer than the longest (5), a journal with an entry whose place is not the one that the
+// rules compare next, or with entries that remain after done or full (18).
+#[no_mangle]
+pub extern "C" fn poqewan_replay<'a>(
+    pattern: Pattern,
+    n: usize,
+    positions: &mut [u32],
+    journal: &'a [u32],
+) -> SearchReport
+    ensures answer { λ r. ⌜ r ≡ carried (replays.answerOf pattern n (now (journal .entry)) (length (now (positions .entry)))) ⌝ }
+    ensures list { λ r. ⌜ now (positions .exit) ≡ replays.listOf pattern n (now (journal .entry)) (now (positions .entry)) ⌝ }
+    ensures text { λ r. ⌜ ((t : List ℕ) → length t ≡ n → Answered (text-source (wordOf pattern) (textOf pattern t)) (replayed (wordOf pattern) n (now (journal .entry)) (length (now (positions .entry))) .last .made) → (r .refusal ≡ numberOf FalseJournal → ⊥) → (r ≡ carried (answerBy colussi pattern t (length (now (journal .entry))) (length (now (positions .entry))))) × (now (positions .exit) ≡ listBy colussi pattern t (length (now (journal .entry))) (now (positions .entry)))) ⌝ }
+    ensures own { λ r. ⌜ ((t : List ℕ) (cap : ℕ) → length t ≡ n → now (journal .entry) ≡ journalOf (colussi (wordOf pattern) (textOf pattern t) cap (length (now (positions .entry))) .last .made) → (r ≡ carried (answerBy colussi pattern t cap (length (now (positions .entry))))) × (now (positions .exit) ≡ listBy colussi pattern t cap (now (positions .entry)))) ⌝ }
+    ensures whole { λ r. ⌜ (r .refusal ≡ 0 → Whole (wordOf pattern) n (now (journal .entry)) (length (now (positions .entry))) (reportIn r)) ⌝ }
+    ensures columns { λ r. ⌜ (r .refusal ≡ 0 → Columns (wordOf pattern) (replayed (wordOf pattern) n (now (journal .entry)) (length (now (positions .entry))) .last .made) (reportIn r)) ⌝ }
+    ensures ceiling { λ r. ⌜ (r .refusal ≡ 0 → UnderCeiling (length (wordOf pattern)) n (reportIn r)) ⌝ }
+    ensures plain { λ r. ⌜ (pattern .classes ≡ identity → (r ≡ carried (replays.plainAnswerOf pattern n (now (journal .entry)) (length (now (positions .entry))))) × (now (positions .exit) ≡ replays.plainListOf pattern n (now (journal .entry)) (now (positions .entry)))) ⌝ }
+{
+    carry(replay::replay(pattern, n, positions, journal))
 }
 
 // Searches a text in Colussi's order, without a cap, up to the first position where the pattern occurs. Refused, in this order: a pattern that

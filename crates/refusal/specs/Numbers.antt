@@ -1,7 +1,7 @@
 -- The refusals by their numbers in document 01's table "Turned away", to which document 02 adds rows.
 use Prim.Native.Nat.{ℕ}
 use Rattle.refusal.specs.declared.Refusal.{Refusal}
-use Rattle.refusal.specs.declared.Refusal.the-variants.{NoPattern, LongPattern, ShortScratch, FalsePattern, LongText, ShortInput, NoTrailer, FalseDirectory, RecordsApart, ZeroInPattern, ShortLengths, ClassesNot256, ZeroClassShared, FalseOrder}
+use Rattle.refusal.specs.declared.Refusal.the-variants.{NoPattern, LongPattern, ShortScratch, FalsePattern, LongText, ShortInput, NoTrailer, FalseDirectory, RecordsApart, ZeroInPattern, ShortLengths, ClassesNot256, ZeroClassShared, FalseOrder, ShortJournal, FalseJournal}
 
 abbrev pub numberOf : Refusal → ℕ
 numberOf NoPattern = 1
@@ -18,3 +18,5 @@ numberOf ShortLengths = 11
 numberOf ClassesNot256 = 14
 numberOf ZeroClassShared = 15
 numberOf FalseOrder = 16
+numberOf ShortJournal = 17
+numberOf FalseJournal = 18

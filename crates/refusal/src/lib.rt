@@ -32,6 +32,10 @@ pub enum Refusal {
     ZeroClassShared,
     // C-20: the bytes of a house order aren't m different places
     FalseOrder,
+    // C-21: the journal is shorter than the cap
+    ShortJournal,
+    // C-21: an entry's place isn't the one the rules compare next, or entries remain after done or full
+    FalseJournal,
 }
 
 impl Refusal {
@@ -54,6 +58,8 @@ impl Refusal {
             Refusal::ClassesNot256 => 14,
             Refusal::ZeroClassShared => 15,
             Refusal::FalseOrder => 16,
+            Refusal::ShortJournal => 17,
+            Refusal::FalseJournal => 18,
         }
     }
 }

@@ -7,6 +7,7 @@ pub mod Method
 pub mod Excluded
 pub mod Known
 pub mod Ceiling
+pub mod ColussiCeiling
 pub mod ColussiMethod
 pub mod KmpMethod
 pub mod Uncapped
@@ -14,5 +15,6 @@ pub mod SamePositions
 pub mod Columns
 pub mod Passing
 pub mod Following
+pub mod ColussiRanges
 pub mod Scans
 pub mod AllStarred

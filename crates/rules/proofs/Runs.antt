@@ -7,8 +7,9 @@ use mathlib.Core.Bool.{Bool, true, false}
 use mathlib.Core.List.{List, [], _∷_, _++_, append-assoc, append-nil}
 use native.Mathlib.Omega.{arith}
 use lib.ListN.{length, length-append}
-use Rattle.words.proofs.Cases.{true-or-false}
+use Rattle.words.proofs.Cases.{less-or, true-or-false}
 use Rattle.rules.specs.Rules.{Plan, Source, Compared, State, Turn, stop, go, leave, listed, compared, matched, missed, turn, rest, search}
+use Rattle.rules.specs.Answered.{Answered}
 use Rattle.rules.specs.Internal.Passing.{Established, Due, one, Visits}
 use Rattle.rules.specs.declared.Ending.{Ending}
 use Rattle.rules.specs.declared.Ending.the-variants.{Done, Spent, Full}
@@ -42,9 +43,13 @@ module _ (plan : Plan) (source : Source) (moving : Moving plan) (cap size : ℕ)
   rest-later s = rest-keeps plan source moving cap size (Later s) (λ e r. Later s r) (later-turn s) s
       record { made = ([], refl); found = ([], sym (append-nil (s .found))) }
 
-  -- What a run has made and found after a turn it has at its end.
+  -- What a run has made and found at a state that it goes by it has at its end.
+  pub visits-later : (s : State) → Visits plan source cap size s → Later s (search plan source cap size .last)
+  visits-later s v = rw v at (rest-later s)
+
+  -- What it has after a turn.
   pub turn-later : (s r : State) → Visits plan source cap size s → turn plan source cap size s ≡ go r → Later r (search plan source cap size .last)
-  turn-later s r v q = rw (sym (rest-goes-on plan source moving cap size s r q) ∙ v) at (rest-later r)
+  turn-later s r v q = visits-later r (sym (rest-goes-on plan source moving cap size s r q) ∙ v)
 
 -- ---- Where a run ends
 
@@ -183,6 +188,25 @@ module _ (plan : Plan) (source : Source) (moving : Moving plan) (cap size : ℕ)
           (turn-missed plan source (suc cap) size s (E .fits) (E .due) (λ z. omega (arith, E .spent)) q))
           (true-or-false (source .agree (s .window) (plan .place (s .rank)) (length (s .made))))
 
+-- A run is the same with a cap that is the number of its comparisons.
+module _ (plan : Plan) (source : Source) (moving : Moving plan) (cap size : ℕ) where
+  abbrev made : ℕ
+  made = length (search plan source cap size .last .made)
+
+  -- Were it spent then, it would make one more with a cap of one more, and so would this run.
+  unspent : made < cap → (b : ℕ) → search plan source made size .ending ≡ Spent b → ⊥
+  unspent l b e =
+      let more : length (search plan source (suc made) size .last .made) ≡ suc made = spent-due plan source moving made size b e in
+      let L = visits-later plan source moving cap size (search plan source (suc made) size .last)
+      (larger-visits plan source moving (suc made) size cap size l (omega arith)) .made in
+      omega (arith, ap length (L .1), length-append (L .0) (search plan source (suc made) size .last .made))
+
+  pub capped-at-count : search plan source made size ≡ search plan source cap size
+  capped-at-count = ⊎-elim
+      (λ (l : made < cap). sym (larger-cap plan source moving made size cap (omega arith) (unspent l)))
+      (λ (l : cap ≤ made). ap (λ c. search plan source c size) (omega (arith, search-capped plan source cap size moving)))
+      (less-or made cap)
+
 -- ---- Runs that turn alike
 
 -- Two runs, by whatever plans, sources, caps and lists, that turn alike wherever the first goes: they are the same run.
@@ -202,11 +226,6 @@ module _ (plan plan' : Plan) (source source' : Source) (moving : Moving plan) (m
         sym (rest-goes-on plan source moving cap size s r q) ∙ B .0,
         sym (rest-goes-on plan' source' moving' cap' size' s r (sym (alike s (B .0)) ∙ q)) ∙ B .1,
       )
-
--- Each of the comparisons has the answer that the source gives to it.
-abbrev pub Answered : Source → List Compared → Type 0
-Answered source [] = Unit {0}
-Answered source (x ∷ made) = (source .agree (x .window) (x .place) (length made) ≡ x .equal) × Answered source made
 
 answered-at : (source : Source) (x : Compared) (more made : List Compared) → Answered source (more ++ (x ∷ made))
     → source .agree (x .window) (x .place) (length made) ≡ x .equal
@@ -237,3 +256,21 @@ module _ (plan : Plan) (source source' : Source) (moving : Moving plan) (cap siz
           sym (turn-matched plan source' cap size s (omega (arith, same-n)) d e (same-answer s _ true refl v q))
       at s v _ (misses fits d e a) q =
           sym (turn-missed plan source' cap size s (omega (arith, same-n)) d e (same-answer s _ false refl v q))
+
+-- The comparisons of a run have the answers that its own source gives to them.
+module _ (plan : Plan) (source : Source) (moving : Moving plan) (cap size : ℕ) where
+  answered-turn : (s : State) → Answered source (s .made)
+      → Keeps (λ r. Answered source (r .made)) (λ e r. Answered source (r .made)) s (turn plan source cap size s)
+  unfolding matched missed compared listed leave
+  answered-turn s A = at (turn plan source cap size s) (rule plan source cap size s)
+    where
+      at : (T : Turn) → Rule plan source cap size s T → Keeps (λ r. Answered source (r .made)) (λ e r. Answered source (r .made)) s T
+      at _ (past l) = A
+      at _ (fills fits k l) = A
+      at _ (lists fits k l) = A
+      at _ (spends fits d e) = A
+      at _ (matches fits d e q) = (q, A)
+      at _ (misses fits d e q) = (q, A)
+
+  pub search-answered : Answered source (search plan source cap size .last .made)
+  search-answered = search-keeps plan source moving cap size (λ r. Answered source (r .made)) (λ e r. Answered source (r .made)) answered-turn tt

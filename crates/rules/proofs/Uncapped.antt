@@ -9,7 +9,8 @@ use Rattle.rules.specs.Colussi.{colussi-plan, colussi}
 use Rattle.rules.specs.Stopped.{stopped}
 use Rattle.rules.specs.declared.Ending.the-variants.{Spent}
 use Rattle.rules.proofs.Runs.{larger-cap}
-use Rattle.rules.proofs.ColussiMethod.{method, colussi-finds, colussi-ceiling}
+use Rattle.rules.proofs.ColussiMethod.{method, colussi-finds}
+use Rattle.rules.proofs.ColussiCeiling.{colussi-ceiling}
 
 module _ (w t : List ℕ) (some : 1 ≤ length w) where
   -- A cap of 2n is never spent.

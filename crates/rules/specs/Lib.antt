@@ -1,6 +1,7 @@
 -- What a reader must believe; Internal holds what only functions that follow the rules promise each other.
 pub mod Occurs
 pub mod Rules
+pub mod Answered
 pub mod Colussi
 pub mod Stopped
 pub mod Kmp

@@ -8,6 +8,7 @@ use native.Mathlib.Omega.{arith}
 use native.Mathlib.Numerals.{add-one}
 use lib.ListN.{length, getD, take, set, length-set}
 use lib.Seq.{length-take-le, getD-take}
+use borrow.Author.Tests.{eq-eqb, ne-eqb}
 use Rattle.words.specs.Tables.{nohole, kmin, below, noholes, place, rank, shift}
 use Rattle.words.proofs.Cases.{true-or-false}
 use Rattle.words.proofs.Numbers.{count-zero}
@@ -17,7 +18,7 @@ use Rattle.words.proofs.Shifts.{shift-nohole, shift-last, noholes-le}
 use Rattle.pattern.specs.Sizes.{ranks}
 use Rattle.hmax.proofs.Stores.{after-store}
 use Rattle.columns.specs.Ended.{endedWith}
-use Rattle.rules.specs.Rules.{edge-after}
+use Rattle.rules.specs.Rules.{text-source, edge-after}
 use Rattle.rules.specs.Kmp.{kmp-shift, kmp-plan, kmp}
 use Rattle.rules.specs.Internal.Passing.{Due}
 use Rattle.rules.specs.Report.{Reported}
@@ -154,13 +155,13 @@ none-below w i l = omega (arith, below-grows w i 1 l, below-hole w 0 (zero-hole 
 -- noholes than there are noholes among these i.
 pub record ScansByPlace (letters : List ℕ) (m : ℕ) (text : List ℕ) (cap : ℕ) (before after : List ℕ) (b i left q k : ℕ) : Type 0 where
   pub within : left ≤ cap
-  pub scans : Scans (nohole (take m letters)) (kmp-plan (take m letters)) (take m letters) text cap before after
+  pub scans : Scans (nohole (take m letters)) (kmp-plan (take m letters)) (text-source (take m letters) text) cap before after
       b i 0 (cap - left) (q + below (take m letters) i) k
 
 pub by-place-start : (letters : List ℕ) (m : ℕ) (text : List ℕ) (cap : ℕ) (before : List ℕ) → ScansByPlace letters m text cap before before 0 0 cap 0 0
 by-place-start letters m text cap before = record {
   within = omega arith;
-  scans = scans-as (scans-start _ _ _ text cap before) (omega arith) (omega (arith, none-below (take m letters) 0 (omega arith)));
+  scans = scans-as (scans-start _ _ _ cap before) (omega arith) (omega (arith, none-below (take m letters) 0 (omega arith)));
 }
 
 -- The first m letters, with their tables by place.
@@ -189,9 +190,9 @@ module _ (letters shifts belows : List ℕ) (m : ℕ) (sizes : (1 ≤ m) × (m �
   module _ {text : List ℕ} {cap : ℕ} {before after : List ℕ} {b i left q k : ℕ} (F : ScansByPlace letters m text cap before after b i left q k) where
     -- The window is left at r, which is j in the code, by the shift s that the table has there.
     left-by : (later : List ℕ) (r j s c' x k' : ℕ) → r ≤ length (take m letters) → j ≡ r → s ≡ getD shifts j 0
-        → Scans (nohole (take m letters)) (kmp-plan (take m letters)) (take m letters) text cap before later
+        → Scans (nohole (take m letters)) (kmp-plan (take m letters)) (text-source (take m letters) text) cap before later
         (b + kmp-shift (take m letters) r) (r - kmp-shift (take m letters) r) (edge-after (kmp-plan (take m letters)) r b 0) c' x k'
-        → Scans (nohole (take m letters)) (kmp-plan (take m letters)) (take m letters) text cap before later (b + s) (j - s) 0 c' x k'
+        → Scans (nohole (take m letters)) (kmp-plan (take m letters)) (text-source (take m letters) text) cap before later (b + s) (j - s) 0 c' x k'
     left-by later r j s c' x k' l at read G = rw (read, at, K .shift-at r l) (rw (edge-stays (take m letters) r b 0 l) at G)
 
     -- The comparisons at noholes, as the code has them.
@@ -208,7 +209,7 @@ module _ (letters shifts belows : List ℕ) (m : ℕ) (sizes : (1 ≤ m) × (m �
 
     pub scan-done : length text < b + m → Ends Done
     unfolding kmp
-    scan-done l = scans-done _ _ _ text cap before R (F .scans) columns (omega (arith, word))
+    scan-done l = scans-done _ _ _ cap before R (F .scans) columns (omega (arith, word))
 
     -- Past the windows that miss at rank 0.
     pub scan-ahead : {x last b' i' left' : ℕ} → Ahead text x 0 last b left b' i' left' → last + m ≡ length text → i ≡ 0 → x ≡ getD letters 0 0
@@ -235,7 +236,7 @@ module _ (letters shifts belows : List ℕ) (m : ℕ) (sizes : (1 ≤ m) × (m �
 
         pub scan-spent : left ≡ 0 → Ends (Spent b)
         unfolding kmp
-        scan-spent l = scans-spent _ _ _ text cap before R (F .scans) columns inside due (omega arith)
+        scan-spent l = scans-spent _ _ _ cap before R (F .scans) columns inside due (omega arith)
 
         module _ (more : left ≡ 0 → ⊥) where
           one-less : cap - (left - 1) ≡ suc (cap - left)
@@ -247,8 +248,8 @@ module _ (letters shifts belows : List ℕ) (m : ℕ) (sizes : (1 ≤ m) × (m �
           pub scan-matched : getD letters i 0 ≡ getD text (b + i) 0 → ScansByPlace letters m text cap before after b (i + 1) (left - 1) q k
           scan-matched e = record {
             within = omega (arith, F .within);
-            scans = rw (one-less, add-one i) (scans-matched _ _ _ text cap before R (F .scans) inside due (λ z. omega (arith, F .within))
-                (rw (add-one i) at one-nohole) (getD-take m letters i 0 rank ∙ e));
+            scans = rw (one-less, add-one i) (scans-matched _ _ _ cap before R (F .scans) inside due (λ z. omega (arith, F .within))
+                (rw (add-one i) at one-nohole) (eq-eqb _ _ (getD-take m letters i 0 rank ∙ e)));
           }
 
           -- The window is left by the shift s, with the noholes from i - s on and below i + 1 more.
@@ -258,7 +259,7 @@ module _ (letters shifts belows : List ℕ) (m : ℕ) (sizes : (1 ≤ m) × (m �
           scan-missed e s read {kept} {new} is adds = record {
             within = omega (arith, F .within);
             scans = rw is (left-by after i i s (cap - (left - 1)) (q + new + below (take m letters) (i - s)) k (rank-upto (F .scans)) refl read (rw one-less
-                (scans-missed _ _ _ text cap before R (F .scans) inside due (λ z. omega (arith, F .within))
+                (scans-missed _ _ _ cap before R (F .scans) inside due (λ z. omega (arith, F .within))
                 (omega (
                   arith,
                   one-nohole,
@@ -267,14 +268,14 @@ module _ (letters shifts belows : List ℕ) (m : ℕ) (sizes : (1 ≤ m) × (m �
                   ap (below (take m letters)) is,
                   belows-grow kept (i + 1) (omega arith) (omega arith),
                 ))
-                (λ a. e (sym (getD-take m letters i 0 rank) ∙ a)))));
+                (ne-eqb _ _ (λ a. e (sym (getD-take m letters i 0 rank) ∙ a))))));
           }
 
       -- The pattern occurs.
       module _ (rank : m ≤ i) where
         pub scan-full : k ≡ length after → Ends (Full b)
         unfolding kmp
-        scan-full l = scans-full _ _ _ text cap before R (F .scans) columns inside (inl (omega (arith, word))) l
+        scan-full l = scans-full _ _ _ cap before R (F .scans) columns inside (inl (omega (arith, word))) l
 
         -- The window is stored, as v, and left by the shift s, with the noholes from m - s on more.
         pub scan-listed : (k ≡ length after → ⊥) → {v : ℕ} → v ≡ b → (s : ℕ) → s ≡ getD shifts m 0
@@ -286,7 +287,7 @@ module _ (letters shifts belows : List ℕ) (m : ℕ) (sizes : (1 ≤ m) × (m �
               within = F .within;
               scans = rw (is, back) (left-by (set after k b) (length (take m letters)) m s (cap - left) (q + new + below (take m letters) (m - s)) (k + 1)
                   (omega arith) (sym word) read
-                  (scans-as (scans-listed _ _ _ text cap before R (F .scans) inside (inl (omega (arith, word))) l)
+                  (scans-as (scans-listed _ _ _ cap before R (F .scans) inside (inl (omega (arith, word))) l)
                   refl
                   (omega (
                     arith,

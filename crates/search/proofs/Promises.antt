@@ -22,7 +22,8 @@ use Rattle.rules.specs.declared.Ending.{Ending}
 use Rattle.rules.specs.declared.Ending.the-variants.{Done, Spent, Full}
 use Rattle.rules.proofs.Columns.{columns-sum}
 use Rattle.rules.proofs.Method.{Finds}
-use Rattle.rules.proofs.ColussiMethod.{colussi-finds, colussi-ceiling}
+use Rattle.rules.proofs.ColussiMethod.{colussi-finds}
+use Rattle.rules.proofs.ColussiCeiling.{colussi-ceiling}
 use Rattle.rules.proofs.KmpMethod.{kmp-finds, kmp-ceiling}
 use Rattle.rules.proofs.SamePositions.{same-positions}
 use Rattle.search.specs.Answer.{answerBy, listBy, plainAnswerBy, plainListBy}

@@ -161,19 +161,19 @@ module _ (q : ℕ → Bool) (plan : Plan) (w text : List ℕ) (by : ByOne q plan
         (eq-eqb _ _ (agree b' (A .matched l .1))))
 
   -- A scan passes all of them, and the comparison that matches, if one does.
-  pub scans-ahead : Ranges plan → {cap c : ℕ} {before after : List ℕ} {y k : ℕ} → Scans q plan w text cap before after b 0 e c y k
-      → c + left ≡ cap → {c' : ℕ} → c' + left' ≡ cap → Scans q plan w text cap before after b' i' e c' y k
+  pub scans-ahead : Ranges plan → {cap c : ℕ} {before after : List ℕ} {y k : ℕ} → Scans q plan (text-source w text) cap before after b 0 e c y k
+      → c + left ≡ cap → {c' : ℕ} → c' + left' ≡ cap → Scans q plan (text-source w text) cap before after b' i' e c' y k
   scans-ahead R {cap} {c} {before} {after} {y} {k} F budget {c'} later = ⊎-elim
       (λ (l : i' < 1).
       let rank : i' ≡ 0 = omega arith in
-      rw rank (scans-on q plan w text cap before R F (misses plan b d (F .made))
+      rw rank (scans-on q plan (text-source w text) cap before R F (misses plan b d (F .made))
       (omega (arith, length-misses plan b d (F .made), A .spent, F .count))
       passed-apart
       (rw (sym window) at (missed budget (F .made) (F .count) d (omega arith)))
       inside (omega arith) (omega arith)))
       (λ (l : 1 ≤ i').
       let rank : i' ≡ 1 = omega (arith, A .rank) in
-      rw rank (scans-on q plan w text cap before R F (one plan b' 0 true ∷ misses plan b d (F .made))
+      rw rank (scans-on q plan (text-source w text) cap before R F (one plan b' 0 true ∷ misses plan b d (F .made))
       (omega (arith, length-misses plan b d (F .made), A .spent, F .count))
       (adds-nothing q plan (by .apart) b' true (misses plan b d (F .made)) ∙ passed-apart)
       (met budget (F .made) (F .count) d window l)

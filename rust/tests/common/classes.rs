@@ -1,6 +1,6 @@
 //! Classes to search by: some that a reader sees through, and drawn ones.
 
-use super::{changed, fibonacci, repeated, Random};
+use super::{changed, fibonacci, repeated, Random, Trial};
 use crate::oracle::{identity, CLASSES};
 use poqewan::Pattern;
 
@@ -171,5 +171,21 @@ impl Drawn {
             text.extend(self.disguised(&repeated(bytes, to)[from..], random));
         }
         text
+    }
+}
+
+/// Patterns of drawn classes, each beside one in disguise: of other bytes with the same classes.
+pub fn in_disguise(seed: u64, mut check: impl FnMut(&Drawn, &[u8], [&mut Trial; 2], &mut Random)) {
+    let mut random = Random::new(seed);
+    for number in [2, 3, 16, 64, 200] {
+        let drawn = Drawn::of(number, number % 2 == 0, &mut random);
+        for len in [1, 2, 7, 32, 256] {
+            for bytes in drawn.patterns(len, &mut random) {
+                let disguised = drawn.disguised(&bytes, &mut random);
+                let mut trial = Trial::with_classes(&bytes, &drawn.classes);
+                let mut other = Trial::with_classes(&disguised, &drawn.classes);
+                check(&drawn, &bytes, [&mut trial, &mut other], &mut random);
+            }
+        }
     }
 }

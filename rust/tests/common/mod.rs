@@ -4,6 +4,7 @@
 
 pub mod archives;
 pub mod classes;
+pub mod journals;
 pub mod lengths;
 pub mod orders;
 pub mod worked;
@@ -11,6 +12,7 @@ pub mod worked;
 use crate::oracle::ordered::CustomOrder;
 use crate::oracle::{self, Listed, Tables, CLASSES};
 use archives::{assert_record_refused, packed};
+use journals::assert_journal_refused;
 use lengths::assert_lengths_refused;
 use orders::{assert_order_refused, left_to_right};
 use poqewan::{Ending, First, Pattern, Preparation, Refusal, Report, SCRATCH};
@@ -22,7 +24,11 @@ pub const UNWRITTEN: u32 = 0xA5A5_A5A5;
 /// prefix lengths and in two orders more. It is odd, so both methods have their turn.
 const EVERY: usize = 7;
 
-/// The longest text for which that is done.
+/// Of every so many searches one is made with a journal too and replayed, if it is Colussi's. The number
+/// is odd, so every other one is.
+const EVERY_JOURNALED: usize = 5;
+
+/// The longest text for which either is done.
 const SHORT: usize = 1_000;
 
 /// The searches of Colussi and of Knuth, Morris and Pratt.
@@ -151,7 +157,7 @@ impl Trial {
     /// Runs both searches and checks all that is promised of them. Where Colussi's is run to its
     /// end, the answer for the first position is checked too. Some of the searches are asked again
     /// of the text as a record of an archive, and then the prefix lengths and the search in two
-    /// orders more are checked as well.
+    /// orders more are checked as well; others of them are made with a journal and replayed.
     pub fn check(&mut self, text: &[u8], cap: u64, list_len: usize) -> [Report; 2] {
         let occurrences = self.occurrences(text);
         Method::BOTH.map(|method| self.check_one(method, text, cap, list_len, &occurrences))
@@ -194,6 +200,10 @@ impl Trial {
             self.check_as_record(method, text, cap, &expected);
             self.check_lengths(text);
             self.check_in_two_orders(text, cap, list_len);
+        }
+        let journaled = method == Method::Colussi && self.searches % EVERY_JOURNALED == 0;
+        if journaled && text.len() <= SHORT {
+            self.check_beside_colussi(text, cap, list_len, &expected);
         }
         expected
     }
@@ -347,6 +357,44 @@ pub fn prepared(bytes: &[u8]) -> Pattern {
     preparation(bytes, &oracle::identity()).pattern
 }
 
+/// Patterns that preparation gives for nothing: aab's with a field or an entry made false, also so
+/// that a window would stand still or a place would be none.
+pub fn false_patterns() -> Vec<Pattern> {
+    let good = prepared(b"aab");
+    let mut patterns = vec![oracle::ZERO];
+    for len in [0, 1, 2, 4, 256, 257, usize::MAX] {
+        patterns.push(Pattern { len, ..good });
+    }
+    for noholes in [0, 2, usize::MAX] {
+        patterns.push(Pattern { noholes, ..good });
+    }
+    let mut change = |change: fn(&mut Pattern)| {
+        let mut pattern = good;
+        change(&mut pattern);
+        patterns.push(pattern);
+    };
+    change(|pattern| pattern.bytes[0] = 0);
+    change(|pattern| pattern.bytes[1] = b'b');
+    change(|pattern| pattern.bytes[255] = b'a');
+    change(|pattern| pattern.classes[usize::from(b'b')] = b'a');
+    change(|pattern| pattern.classes[usize::from(b'c')] = 0);
+    change(|pattern| pattern.order.swap(0, 1));
+    change(|pattern| pattern.order[255] = 1);
+    change(|pattern| pattern.order = [255; oracle::LONGEST_PATTERN]);
+    change(|pattern| pattern.shift[0] = u16::MAX);
+    change(|pattern| pattern.shift[3] += 1);
+    change(|pattern| pattern.shift = [0; oracle::LONGEST_PATTERN + 1]);
+    change(|pattern| pattern.next[3] += 1);
+    change(|pattern| pattern.next[3] = u16::MAX);
+    change(|pattern| pattern.marks[0] ^= 1);
+    change(|pattern| pattern.marks[3] ^= 1 << 63);
+    change(|pattern| pattern.marks = [0; 4]);
+    for pattern in &patterns {
+        assert!(oracle::tables_if_true(pattern).is_none(), "{pattern:?}");
+    }
+    patterns
+}
+
 /// Prepares a pattern, and checks the answer and the scratch. Gives the refusal, if any.
 pub fn check_preparation(bytes: &[u8], classes: &[u8], scratch_len: usize) -> Option<Refusal> {
     // All numbers differ and none is 0.
@@ -395,7 +443,8 @@ pub fn check_value(value: &Pattern) -> bool {
 /// All searches must refuse so and leave the list as it is. So must those of a record, with the
 /// text for an archive: the pattern is tested first, and then the length. So must the call for prefix
 /// lengths, also with a list that is too short: that is tested last. So must the search in an order
-/// of its own, for a false pattern also with an order that is none: that is tested second.
+/// of its own, for a false pattern also with an order that is none: that is tested second. So must the
+/// journaled search and the replay, whatever the journal.
 pub fn assert_refused(pattern: &Pattern, text: &[u8], why: Refusal) {
     let answer = poqewan::find_first(pattern, text);
     assert_eq!(answer, Err(why), "the first position of {pattern:?}");
@@ -407,6 +456,7 @@ pub fn assert_refused(pattern: &Pattern, text: &[u8], why: Refusal) {
     if why == Refusal::FalsePattern {
         assert_order_refused(pattern, &[0, 0], text, why);
     }
+    assert_journal_refused(pattern, text, why);
     for method in Method::BOTH {
         let mut list = [UNWRITTEN; 8];
         let answer = method.run(pattern, text, u64::MAX, &mut list);
@@ -417,7 +467,7 @@ pub fn assert_refused(pattern: &Pattern, text: &[u8], why: Refusal) {
 }
 
 /// All words of a length.
-pub fn words(letters: &[u8], len: usize) -> Vec<Vec<u8>> {
+pub fn words<T: Copy>(letters: &[T], len: usize) -> Vec<Vec<T>> {
     (0..len).fold(vec![Vec::new()], |shorter, _| {
         shorter
             .iter()
@@ -431,7 +481,7 @@ pub fn words(letters: &[u8], len: usize) -> Vec<Vec<u8>> {
 }
 
 /// All words from one length to another.
-pub fn words_of_lengths(letters: &[u8], shortest: usize, longest: usize) -> Vec<Vec<u8>> {
+pub fn words_of_lengths<T: Copy>(letters: &[T], shortest: usize, longest: usize) -> Vec<Vec<T>> {
     (shortest..=longest)
         .flat_map(|len| words(letters, len))
         .collect()
@@ -458,6 +508,39 @@ pub fn fibonacci(len: usize) -> Vec<u8> {
     }
     word.truncate(len);
     word
+}
+
+/// Patterns, each with the root of a periodic text in which its occurrences overlap or just fail.
+pub const OVERLAPPING: [(&[u8], &[u8]); 9] = [
+    (b"aaaa", b"a"),
+    (b"abaab", b"aba"),
+    (b"aabaa", b"aabaa"),
+    (b"aabaabaa", b"aab"),
+    (b"aabaabaa", b"aabaabaabb"),
+    (b"aab", b"a"),
+    (b"abaababa", b"abaababb"),
+    (b"abaabb", b"abaabab"),
+    (b"abab\xFF", b"ab\0ab\xFFabab\xFF"),
+];
+
+/// Patterns of a length: of one letter, periodic, drawn from two letters and from all, a Fibonacci
+/// word, a run that another letter closes or opens, and all values but 0.
+pub fn families(m: usize, random: &mut Random) -> Vec<Vec<u8>> {
+    let run = repeated(b"a", m);
+    vec![
+        changed(&run, m - 1, b'b'),
+        changed(&run, 0, b'b'),
+        changed(&run, m / 2, b'b'),
+        run,
+        repeated(b"ab", m),
+        repeated(b"aab", m),
+        repeated(b"abacabad", m),
+        fibonacci(m),
+        random.word(b"ab", m),
+        random.word(b"aaaaaaab", m),
+        random.word(&oracle::identity()[1..], m),
+        repeated(&oracle::identity()[1..], m),
+    ]
 }
 
 /// A generator of fixed sequences (xorshift).

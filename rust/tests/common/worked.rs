@@ -26,6 +26,43 @@ pub fn windows_and_places(compared: &str) -> Vec<(usize, usize)> {
         .collect()
 }
 
+/// The report with a cap and a list, where a search run to its end makes these comparisons and lists
+/// these positions. The list has no entry for the first position past its end, once the comparisons of
+/// that window are made; the cap is spent where one more is due. There is a digit for each nohole.
+pub fn cut_off(
+    made: &[(usize, usize)],
+    noholes: &str,
+    positions: &[u32],
+    cap: u64,
+    list_len: usize,
+) -> Report {
+    let full = positions.get(list_len).map(|&b| b as usize);
+    let due = made
+        .iter()
+        .filter(|&&(window, _)| !full.is_some_and(|b| b < window));
+    let due = due.count();
+    let count = due.min(usize::try_from(cap).unwrap_or(usize::MAX));
+    let ending = match full {
+        _ if count < due => Ending::Spent(made[count].0),
+        Some(b) => Ending::Full(b),
+        None => Ending::Done,
+    };
+    let is_nohole = |place: usize| noholes.contains(&place.to_string());
+    let at_noholes = made[..count].iter().filter(|&&(_, place)| is_nohole(place));
+    let at_noholes = at_noholes.count();
+    let written = match ending {
+        Ending::Done => positions.len(),
+        Ending::Spent(b) | Ending::Full(b) => positions.partition_point(|&at| (at as usize) < b),
+    };
+    Report {
+        ending,
+        count: count as u64,
+        at_noholes: at_noholes as u64,
+        at_holes: (count - at_noholes) as u64,
+        written,
+    }
+}
+
 /// A pattern by its classes, with a cap and a list, in a text. Both searches have the positions and
 /// the ending.
 pub struct Row {

@@ -5,6 +5,7 @@
 #![allow(dead_code)] // Each test file uses a part of it.
 
 pub mod archive;
+pub mod journal;
 pub mod lengths;
 pub mod ordered;
 
@@ -365,12 +366,28 @@ pub fn search_by_rules(
     list_len: usize,
     listed: &mut Listed,
 ) -> Report {
+    let n = text.len();
+    follow_rules(tables, n, cap, list_len, listed, |b, p| {
+        equal(&tables.classes, tables.bytes[p], text[b + p])
+    })
+}
+
+/// The same rules for a text of n bytes, where whoever is asked tells whether the letter at place p
+/// equals the text's in window b.
+fn follow_rules(
+    tables: &Tables,
+    n: usize,
+    cap: u64,
+    list_len: usize,
+    listed: &mut Listed,
+    mut ask: impl FnMut(usize, usize) -> bool,
+) -> Report {
     listed.clear();
     let m = tables.bytes.len();
     // Window b, rank i, known edge e, count c.
     let (mut b, mut i, mut e, mut c) = (0, 0, 0, 0);
     let mut columns = Columns::NONE;
-    while b + m <= text.len() {
+    while b + m <= n {
         let rank = if i == m || b + tables.order[i] < e {
             // Rule 1: the pattern occurs at b, and the window is left with rank m.
             if listed.len() == list_len {
@@ -386,7 +403,7 @@ pub fn search_by_rules(
             let p = tables.order[i];
             c += 1;
             columns.compared(tables, p);
-            if equal(&tables.classes, tables.bytes[p], text[b + p]) {
+            if ask(b, p) {
                 i += 1;
                 continue;
             }

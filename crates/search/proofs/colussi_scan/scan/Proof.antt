@@ -14,17 +14,17 @@ use Rattle.classes.specs.Classes.{through}
 use Rattle.classes.proofs.Through.{length-through}
 use Rattle.rules.specs.Colussi.{colussi-plan}
 use Rattle.rules.specs.Internal.Passing.{Established}
-use Rattle.rules.specs.Rules.{left}
+use Rattle.rules.specs.Rules.{Source, text-source, left}
 use Rattle.rules.proofs.Rules.{fewer, no-more}
 use Rattle.rules.proofs.Scans.{rank-upto, column-upto}
 use Rattle.search.proofs.LentTables.{in-window, word-length}
-use Rattle.search.proofs.ColussiScan.{ScansByRank, by-rank-start, shift-on, done-at-once, scan-done, scan-ahead, noholes-passed, scan-known, scan-spent, scan-matched, scan-missed, scan-full, scan-listed}
+use Rattle.search.proofs.ColussiScan.{ScansByRank, by-rank-start, shift-on, done-at-once, reports-colussi, text-agrees, text-differs, scan-done, scan-ahead, noholes-passed, scan-known, scan-spent, scan-matched, scan-missed, scan-full, scan-listed}
 use Rattle.search.proofs.colussi_scan.scan.Statement.{statement}
 use Rattle.search.proofs.colussi_scan.scan.Tie as tie
 
 abbrev Inv-loop : tie.InvT-loop
 Inv-loop letters order shift next m d classes text cap positions₀ last first x b₀ i₀ e₀ left₀ h₀ k₀ positions b i e unspent h k =
-    ScansByRank letters m d (through classes text) cap positions₀ positions b i e unspent h k
+    ScansByRank letters m d (text-source (take m letters) (through classes text)) cap positions₀ positions b i e unspent h k
 
 abbrev μ-loop : tie.MeasureT-loop
 μ-loop letters order shift next m d classes text cap positions₀ last first x b₀ i₀ e₀ left₀ h₀ k₀ positions b i e unspent h k = left m (length (through classes text)) b i
@@ -64,6 +64,10 @@ text-of c = through (now (c .args .classes)) (now (c .args .text))
 
 text-length : (c : tie.Start Inv-loop μ-loop) → length (text-of c) ≡ length (now (c .args .text))
 text-length c = length-through (now (c .args .classes)) (now (c .args .text))
+
+-- What the rules learn of it.
+abbrev answers : tie.Start Inv-loop μ-loop → Source
+answers c = text-source (take (c .args .m) (now (c .args .letters))) (text-of c)
 
 -- ---- In the loop
 
@@ -108,7 +112,7 @@ missed : (c : tie.After-leave Inv-loop μ-loop)
     → (let at-loop = leave-loop c in
     let args = entry at-loop .args in
     let after = c .leave .result in
-    ScansByRank (now (args .letters)) (args .m) (args .d) (text-of (entry at-loop)) (args .cap) (now (args .positions))
+    ScansByRank (now (args .letters)) (args .m) (args .d) (answers (entry at-loop)) (args .cap) (now (args .positions))
     (at-loop .loop .positions) (after .window) (after .rank) (after .edge) (at-loop .loop .left - 1) (at-loop .loop .h + after .holes) (at-loop .loop .k))
 missed c =
     let differs = c .before in
@@ -119,7 +123,8 @@ missed c =
     let E = entry at-loop in
     let L = c .leave .ensures in
     scan-missed _ _ _ _ (E .pre .0) (at-loop .loop .inv) (inside (now-due .before .before) .1) _ (is-due now-due .0) (at-place .wide82 .ensures .0)
-    (beyond at-place) (more .if3 .left) (differs .before .agree .ensures .no (differs .if4 .left)) (E .pre .1 .0) (L .0) (L .1) (L .2) (L .3)
+    (beyond at-place) (more .if3 .left)
+    (text-differs _ _ _ _ (E .pre .0) (text-of E) _ _ (place-inside at-place) (differs .before .agree .ensures .no (differs .if4 .left))) (E .pre .1 .0) (L .0) (L .1) (L .2) (L .3)
 
 missed-less : (c : tie.After-leave Inv-loop μ-loop)
     → (let at-loop = leave-loop c in
@@ -165,7 +170,8 @@ returns c =
     let short = c .before in
     let E = short .before .before .before .before .before .before .before .before in
     rw (c .with-holes .ensures)
-    (done-at-once _ _ _ _ (E .pre .0) (text-of E) _ (now (E .args .positions)) (omega (arith, short .if1 .taken, text-length E)))
+    (reports-colussi _ _ _
+    (done-at-once _ _ _ _ (E .pre .0) (answers E) _ (now (E .args .positions)) (omega (arith, short .if1 .taken, text-length E))))
 
 shared-slice-read-x : tie.Need-shared-slice-read-x Inv-loop μ-loop
 shared-slice-read-x c =
@@ -179,9 +185,11 @@ returns-2 c =
     let at-place = spent .before in
     let now-due = at-place .before .before in
     let at-loop = due-loop now-due in
+    let E = entry at-loop in
     rw (c .ended .ensures)
-    (scan-spent _ _ _ _ (entry at-loop .pre .0) (at-loop .loop .inv) (inside (now-due .before .before) .1) _ (is-due now-due .0) (at-place .wide82 .ensures .0)
-    (beyond at-place) (spent .if3 .taken))
+    (reports-colussi _ _ _
+    (scan-spent _ _ _ _ (E .pre .0) (at-loop .loop .inv) (inside (now-due .before .before) .1) _ (is-due now-due .0) (at-place .wide82 .ensures .0)
+    (beyond at-place) (spent .if3 .taken)))
 
 agree-requires : tie.Need-agree-requires Inv-loop μ-loop
 agree-requires c κs = let at-place = c .before .before in (entry (place-loop at-place) .pre .1 .1 .0, place-in-text at-place)
@@ -193,7 +201,8 @@ loop-again c =
     let now-due = at-place .before .before in
     let at-loop = due-loop now-due in
     scan-matched _ _ _ _ (entry at-loop .pre .0) (at-loop .loop .inv) (inside (now-due .before .before) .1) _ (is-due now-due .0) (at-place .wide82 .ensures .0)
-    (beyond at-place) (more .if3 .left) (c .before .agree .ensures .yes (c .if4 .taken))
+    (beyond at-place) (more .if3 .left)
+    (text-agrees _ _ _ _ (entry at-loop .pre .0) (text-of (entry at-loop)) _ _ (place-inside at-place) (c .before .agree .ensures .yes (c .if4 .taken)))
 
 leave-requires : tie.Need-leave-requires Inv-loop μ-loop
 leave-requires c κs =
@@ -231,7 +240,7 @@ loop-again-2 c =
     let at-leave = at-lead .before in
     let at-loop = leave-loop at-leave in
     let L = lead at-lead in
-    scan-ahead _ _ _ _ (entry at-loop .pre .0) (missed at-leave) (c .ahead .ensures) (omega (arith, long at-loop .if1 .left, text-length (entry at-loop)))
+    scan-ahead _ _ _ _ (entry at-loop .pre .0) _ (missed at-leave) (c .ahead .ensures) (omega (arith, long at-loop .if1 .left, text-length (entry at-loop)))
     (L .0) (L .1) (first at-loop .wide8 .ensures .0) refl
 
 returns-3 : tie.Need-returns-3 Inv-loop μ-loop
@@ -239,8 +248,10 @@ returns-3 c =
     let full = c .before in
     let none-due = full .before in
     let in-loop = none-due .before .before in
+    let E = entry (in-loop .before) in
     rw (c .ended2 .ensures)
-    (scan-full _ _ _ _ (entry (in-loop .before) .pre .0) (in-loop .before .loop .inv) (inside in-loop .1) (occurs none-due) (full .if6 .taken))
+    (reports-colussi _ _ _
+    (scan-full _ _ _ _ (E .pre .0) (in-loop .before .loop .inv) (inside in-loop .1) (occurs none-due) (full .if6 .taken)))
 
 -- A window of the text lies below 2^32.
 below-2^32 : (c : tie.Else6 Inv-loop μ-loop)
@@ -276,8 +287,10 @@ returns-4 : tie.Need-returns-4 Inv-loop μ-loop
 returns-4 c =
     let past = c .before in
     let at-loop = past .before in
+    let E = entry at-loop in
     rw (c .ended3 .ensures)
-    (scan-done _ _ _ _ (entry at-loop .pre .0) (at-loop .loop .inv) (omega (arith, past .loop-test .left, long at-loop .if1 .left, text-length (entry at-loop))))
+    (reports-colussi _ _ _
+    (scan-done _ _ _ _ (E .pre .0) (at-loop .loop .inv) (omega (arith, past .loop-test .left, long at-loop .if1 .left, text-length E))))
 
 pub scan-spec : {M : Type 1} → statement M
 scan-spec =

@@ -1,0 +1,17 @@
+-- `replay::follow::due` meets its contract. Assumes nothing.
+use native.Mathlib.Omega.{arith}
+use borrow.Author.Needs.{needs}
+use Rattle.search.proofs.ColussiScan.{none-at-end, due-by-place}
+use Rattle.replay.proofs.follow.due.Statement.{statement}
+use Rattle.replay.proofs.follow.due.Tie as tie
+
+pub due-spec : {M : Type 1} → statement M
+due-spec =
+    tie.close
+    (tie.spec
+    (λ c. none-at-end (c .if1 .taken))
+    (λ c. search needs)
+    (λ c κs. search needs)
+    (λ c. search needs)
+    (λ c. let at-rank = c .before .before in
+    due-by-place (omega (arith, at-rank .if1 .left, at-rank .before .before .pre .0)) (c .wide8 .ensures .0)))
