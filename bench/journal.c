@@ -18,7 +18,7 @@ static void run_journaled(int side, int copy)
 
 /* The replays of a text in pieces of a size, one after the other. Every size goes over journals of the same bytes, each once, so that
    none lies in a nearer cache when its replay begins. But a replay reads its journal twice. The second time the longest, of 16 MiB,
-   comes from a far cache or from memory; a shorter one is nearer, and one of a few thousand entries is even known to the branch
+   comes from a far cache or from memory; a shorter one is nearer, and one of a few thousand entries may even be known to the branch
    predictor. So there are none of that length. */
 #define SHORTEST_PIECE 65536
 #define LONGEST_PIECE 4194304
