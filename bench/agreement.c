@@ -171,6 +171,63 @@ bool journals_agree(const struct version *a, const struct version *b, const stru
         && agree(a->colussi, b->replay, columns, &asked, UINT64_MAX, subject->n, lists);
 }
 
+/* Corrects both lists, which are the same before, and must be so after, to the end of the room. */
+static struct update correct_alike(const struct version *a, const struct version *b, const struct subject *subject, size_t place,
+                                   size_t room, size_t used, struct lists lists, bool *alike)
+{
+    const struct update one = a->correct(subject->prepared[OURS], subject, place, lists.one, room, used);
+    const struct update other = b->correct(subject->prepared[OTHER], subject, place, lists.other, room, used);
+    *alike = *alike && one.refusal == other.refusal && one.used == other.used
+        && memcmp(lists.one, lists.other, room * sizeof *lists.one) == 0;
+    return one;
+}
+
+/* By our search, into the journal. */
+static bool lists_all(const struct version *version, const struct subject *subject, size_t used, struct lists lists)
+{
+    struct report whole;
+    version->colussi(subject->prepared[OURS], subject, UINT64_MAX, lists.journal, subject->n, &whole);
+    return whole.written == used && memcmp(lists.one, lists.journal, used * sizeof *lists.one) == 0;
+}
+
+/* With no room beside the entries in use, and then with enough: the former is refused exactly if there must be more then. */
+static bool corrected_alike(const struct version *a, const struct version *b, const struct subject *subject, size_t place, size_t room,
+                            size_t *used, bool right, struct lists lists)
+{
+    bool alike = true;
+    const struct update full = correct_alike(a, b, subject, place, *used, *used, lists, &alike);
+    const struct update more = correct_alike(a, b, subject, place, room, full.refusal == 0 ? full.used : *used, lists, &alike);
+    const bool grown = more.used > *used;
+    *used = more.used;
+    return alike && more.refusal == 0 && full.refusal == (grown ? POQEWAN_SHORT_LIST : 0) && (grown || full.used == more.used)
+        && (!right || lists_all(a, subject, *used, lists));
+}
+
+bool corrections_agree(const struct version *a, const struct version *b, const struct subject *subject, uint8_t *text, size_t place,
+                       uint8_t byte, size_t used, struct lists lists)
+{
+    if (a->correct == NULL || b->correct == NULL)
+        return true;
+    const bool right = lists_all(a, subject, used, lists);
+    const size_t room = used + subject->m, before = used;
+    const uint8_t bytes[] = {byte, text[place]};
+    bool alike = true;
+    memset(lists.one + used, 0xff, subject->m * sizeof *lists.one);
+    memcpy(lists.other, lists.one, room * sizeof *lists.one);
+    for (size_t i = 0; i < 2; i++) {
+        text[place] = bytes[i];
+        alike = corrected_alike(a, b, subject, place, room, &used, right, lists) && alike;
+    }
+    if (!alike || used != before)
+        return false;
+    const uint32_t entry = lists.one[used - 1];
+    lists.one[used - 1] = lists.other[used - 1] = lists.one[used - 2];
+    const bool refused = correct_alike(a, b, subject, place, room, used, lists, &alike).refusal == POQEWAN_FALSE_LIST
+        && correct_alike(a, b, subject, place, used - 1, used, lists, &alike).refusal == POQEWAN_FALSE_LIST;
+    lists.one[used - 1] = entry;
+    return alike && refused;
+}
+
 /* Of two builds, which make their own shifts. In a longer text, windows that are compared afresh take too long. */
 #define LONGEST_FOR_ORDERS 65536
 

@@ -33,6 +33,13 @@ bool orders_agree(const struct version *a, const struct version *b, const struct
    that journal answer alike, as the search did, and with a list that is too short refuse it alike; or one of them has no journals. */
 bool journals_agree(const struct version *a, const struct version *b, const struct subject *subject, struct lists lists);
 
+/* Whether they bring a list up to date alike when another byte stands at a place of the text, which is the subject's, and when the
+   first one is back, and leave alike what is past the entries in use; whether a list that was right stays so, by our search in
+   Colussi's order; and whether they refuse alike a list that is short, does not ascend, or has more in use than it holds; or one of
+   them has no corrections. The first list has so many entries in use, two or more, which must be the same in the end. */
+bool corrections_agree(const struct version *a, const struct version *b, const struct subject *subject, uint8_t *text, size_t place,
+                       uint8_t byte, size_t used, struct lists lists);
+
 /* Whether two searches of the whole text list the same: one of ours; and one of the other side, or that needs nothing prepared. */
 bool list_alike(search_function *a, search_function *b, const struct subject *subject, struct lists lists);
 

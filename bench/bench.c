@@ -2,13 +2,14 @@
  * Measures the library against plain C by the same rules and prints docs/performance-rows.md: the ratios to the C; the search for
  * the first occurrence, beside the library's own search with an empty list; the search of a record of an archive, beside that of the
  * record by itself; the prefix lengths, the searches in custom orders, the search with a journal and its replay, beside the C; the
- * throughput, with the counts; the cost of preparation and of the check of a pattern; the time per byte as the text grows; the ratios
- * by kind; and whether each target holds.
+ * correction of one byte, as text, pattern and list grow, and beside the C; the throughput, with the counts; the cost of preparation
+ * and of the check of a pattern; the time per byte as the text grows; the ratios by kind; and whether each target holds.
  *
  * It exits with 1 if two searches differ in an answer, and then measures nothing. A missed target is printed and no more: times
  * depend on the machine.
  */
 #include "archive.h"
+#include "correct.h"
 #include "first.h"
 #include "journal.h"
 #include "lengths.h"
@@ -213,6 +214,7 @@ static void verdicts(void)
     judge_lengths();
     judge_ordered();
     judge_journals();
+    judge_corrections();
     judge_growth("time per byte from 64 KiB to 16 MiB within 15 %", GREATEST_SPREAD);
     judge_check("search of an empty text under 4 microseconds at m = 256", 256, LONGEST_CHECK_OF_256);
     judge_check("search of an empty text under 1 microsecond at m = 8", 8, LONGEST_CHECK_OF_8);
@@ -227,6 +229,7 @@ int main(void)
     set_length_rows();
     set_ordered_rows();
     set_journal_rows();
+    set_correct_rows();
     add_trials();
     if (!agree_on_rows(all_agree))
         return 1;
@@ -245,6 +248,7 @@ int main(void)
     print_lengths();
     print_ordered();
     print_journals();
+    print_corrections();
     throughput();
     costs();
     growths();

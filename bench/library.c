@@ -1,9 +1,9 @@
 /* The library's functions in the form in which they are measured. It is compiled with the header of each build: those from before
    C-19 know no classes, those from before C-16 report no columns, those from before C-12 have no search for the first
    occurrence, those from before C-11 have no archives, those from before C-14 have no prefix lengths, those from before C-20 have
-   no custom orders, and those from before C-21 have no journals. C can't ask whether a struct has a field, or whether there is a
-   function, so `run` looks into the header and sets HAS_COLUMNS, HAS_FIRST, HAS_ARCHIVES, HAS_LENGTHS, HAS_ORDERED and HAS_JOURNAL
-   to 1 or 0. */
+   no custom orders, those from before C-21 have no journals, and those from before C-22 have no corrections. C can't ask whether a
+   struct has a field, or whether there is a function, so `run` looks into the header and sets HAS_COLUMNS, HAS_FIRST, HAS_ARCHIVES,
+   HAS_LENGTHS, HAS_ORDERED, HAS_JOURNAL and HAS_CORRECT to 1 or 0. */
 #include "subject.h"
 
 #include <poqewan.h>
@@ -105,6 +105,18 @@ static void replay(const void *prepared, const struct subject *subject, uint64_t
 #define replay NULL
 #endif
 
+#if HAS_CORRECT
+static struct update correct(const void *prepared, const struct subject *subject, size_t place, uint32_t *positions, size_t room,
+                             size_t used)
+{
+    const poqewan_update answer =
+        poqewan_correct(*(const poqewan_pattern *)prepared, subject->text, subject->n, place, positions, room, used);
+    return (struct update){answer.refusal, answer.used};
+}
+#else
+#define correct NULL
+#endif
+
 #if HAS_ARCHIVES
 static void colussi_record(const void *prepared, const struct subject *subject, uint64_t cap, uint32_t *positions, size_t room,
                            struct report *report)
@@ -176,6 +188,7 @@ const struct version version = {colussi,
                                 NULL,
                                 journaled,
                                 replay,
+                                correct,
                                 colussi_record,
                                 kmp_record,
                                 read_directory,

@@ -1,8 +1,8 @@
 /* Colussi's order and Knuth, Morris and Pratt in plain C, by the library's rules and with its report; and the prefix lengths with
-   their count; and custom orders, with shifts that were made before; and Colussi's order with a journal, and the replay of one.
-   Neither the pattern nor an order is checked, nor whether a journal is long enough for the cap. One loop for each,
-   as the rules are written, and nothing more clever: the optimizer is left to do the rest. The prefix lengths are there a second
-   time, tuned by hand. */
+   their count; and custom orders, with shifts that were made before; and Colussi's order with a journal, and the replay of one; and
+   the correction of a list. Neither the pattern nor an order is checked, nor whether a journal is long enough for the cap. One loop
+   for each, as the rules are written, and nothing more clever: the optimizer is left to do the rest. The prefix lengths are there a
+   second time, tuned by hand. */
 #include "subject.h"
 
 #include <poqewan.h>
@@ -391,6 +391,51 @@ static struct prefix_lengths lengths_by_bytes(const struct tables *pattern, cons
     return (struct prefix_lengths){.count = c};
 }
 
+/* The first entry in use that is not below a position, by bisection. */
+static size_t first_from(const uint32_t *positions, size_t used, size_t position)
+{
+    size_t low = 0, high = used;
+    while (low < high) {
+        const size_t middle = low + (high - low) / 2;
+        if (positions[middle] < position)
+            low = middle + 1;
+        else
+            high = middle;
+    }
+    return low;
+}
+
+/* The entries in use are read once, to see whether they ascend. The part of the text that has the windows which cover the place is
+   searched into a list of its own. The entries past those windows move by plain loops, not by memmove. */
+static struct update correct_list(const struct tables *pattern, const uint8_t *text, size_t n, size_t place, uint32_t *positions,
+                                  size_t room, size_t used)
+{
+    const size_t m = pattern->len;
+    uint32_t found[LONGEST_PATTERN];
+    if (used > room)
+        return (struct update){.refusal = POQEWAN_FALSE_LIST};
+    for (size_t i = 1; i < used; i++)
+        if (positions[i - 1] >= positions[i])
+            return (struct update){.refusal = POQEWAN_FALSE_LIST};
+    if (place >= n || n < m)
+        return (struct update){.used = used};
+
+    const size_t from = place < m ? 0 : place - m + 1, past = place < n - m ? place + 1 : n - m + 1;
+    const size_t count = search_colussi(pattern, text + from, past - from + m - 1, UINT64_MAX, found, LONGEST_PATTERN).written;
+    const size_t at = first_from(positions, used, from), end = first_from(positions, used, past), rest = used - end;
+    if (at + count + rest > room)
+        return (struct update){.refusal = POQEWAN_SHORT_LIST};
+    if (at + count < end)
+        for (size_t i = 0; i < rest; i++)
+            positions[at + count + i] = positions[end + i];
+    if (at + count > end)
+        for (size_t i = rest; i > 0; i--)
+            positions[at + count + i - 1] = positions[end + i - 1];
+    for (size_t i = 0; i < count; i++)
+        positions[at + i] = (uint32_t)from + found[i];
+    return (struct update){.used = at + count + rest};
+}
+
 static void colussi(const void *prepared, const struct subject *subject, uint64_t cap, uint32_t *positions, size_t room,
                     struct report *report)
 {
@@ -444,6 +489,12 @@ static void replay(const void *prepared, const struct subject *subject, uint64_t
     give(report, replay_journal(prepared, subject->n, journal->entries, journal->len, positions, room));
 }
 
+static struct update correct(const void *prepared, const struct subject *subject, size_t place, uint32_t *positions, size_t room,
+                             size_t used)
+{
+    return correct_list(prepared, subject->text, subject->n, place, positions, room, used);
+}
+
 static void fill_shifts(const void *prepared, struct order *order)
 {
     shifts_by_rank(prepared, order->places, order->shifts);
@@ -458,6 +509,7 @@ const struct version version = {.colussi = colussi,
                                 .fill_shifts = fill_shifts,
                                 .journaled = journaled,
                                 .replay = replay,
+                                .correct = correct,
                                 .size = sizeof(struct tables),
                                 .has_classes = true,
                                 .has_columns = true};

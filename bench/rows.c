@@ -15,6 +15,7 @@ struct subject subjects[IN_TURN];
 size_t subjects_made;
 struct lists lists;
 struct order orders[ORDERS];
+uint8_t *text_made;
 static uint8_t *stores[SIDES]; /* with a prepared pattern for each subject */
 
 void *touched(size_t bytes)
@@ -90,10 +91,10 @@ static void make_orders(const struct input *input)
 
 void make(const struct input *input)
 {
-    static uint8_t *text, bytes[IN_TURN][POQEWAN_LONGEST_PATTERN], classes[POQEWAN_CLASSES];
+    static uint8_t bytes[IN_TURN][POQEWAN_LONGEST_PATTERN], classes[POQEWAN_CLASSES];
     const size_t most = most_entries(&(struct subject){.m = 1, .n = POQEWAN_LONGEST_TEXT});
-    if (text == NULL) {
-        text = touched(POQEWAN_LONGEST_TEXT);
+    if (text_made == NULL) {
+        text_made = touched(POQEWAN_LONGEST_TEXT);
         lists.one = touched(POQEWAN_LONGEST_TEXT * sizeof *lists.one);
         lists.other = touched(POQEWAN_LONGEST_TEXT * sizeof *lists.other);
         lists.lengths = touched(POQEWAN_LONGEST_TEXT * sizeof *lists.lengths);
@@ -106,7 +107,7 @@ void make(const struct input *input)
     subjects_made = input->kind != NULL || input->orders > 0 ? 1 : IN_TURN;
     if (input->kind != NULL) {
         const size_t n = input->archive != NULL ? 0 : input->size->n; /* an archive is there already */
-        make_input(input->kind, classes, bytes[0], input->m, text, n, input->number);
+        make_input(input->kind, classes, bytes[0], input->m, text_made, n, input->number);
     } else {
         identity(classes);
         if (input->orders > 0)
@@ -115,7 +116,7 @@ void make(const struct input *input)
             make_in_turn(input->family, bytes, input->m);
     }
     for (size_t i = 0; i < subjects_made; i++) {
-        const uint8_t *in = input->archive != NULL ? record_of(input) : input->kind != NULL ? text : bytes[i];
+        const uint8_t *in = input->archive != NULL ? record_of(input) : input->kind != NULL ? text_made : bytes[i];
         subjects[i] = (struct subject){
             bytes[i], input->m, classes, in, length_of_text(input), {NULL}, input->archive, input->record, NULL, NULL};
         for (enum side side = 0; side < SIDES; side++) {
@@ -124,9 +125,11 @@ void make(const struct input *input)
         }
     }
     if (without_occurrence(input)) /* by KMP, which is not measured on it: the branch predictor knows what has just run */
-        break_occurrences(text, lists.one, report_by(versions[OURS][0]->kmp).written, input->m);
+        break_occurrences(text_made, lists.one, report_by(versions[OURS][0]->kmp).written, input->m);
     if (input->orders > 0)
         make_orders(input);
+    if (input->correction != NULL)
+        input->correction->ready(input);
 }
 
 uint64_t count_by(search_function *search)
@@ -177,7 +180,8 @@ struct row *const longest_texts = rows + TEXTS - COUNT_OF(kinds), *const first_r
 struct row *const archive_rows = rows + TEXTS + PATTERNS + FIRSTS;
 struct row *const length_rows = rows + TEXTS + PATTERNS + FIRSTS + IN_ARCHIVES;
 struct row *const journal_rows = rows + TEXTS + PATTERNS + FIRSTS + IN_ARCHIVES + FOR_LENGTHS;
-struct row *const ordered_rows = rows + TEXTS + PATTERNS + FIRSTS + IN_ARCHIVES + FOR_LENGTHS + FOR_JOURNALS;
+struct row *const correct_rows = rows + TEXTS + PATTERNS + FIRSTS + IN_ARCHIVES + FOR_LENGTHS + FOR_JOURNALS;
+struct row *const ordered_rows = rows + ROWS - FOR_ORDERS;
 
 void add_trial(struct row *row, const struct work *work, int variants, struct share share)
 {
@@ -233,6 +237,8 @@ const char *size_name_of(const struct row *row)
 
 double nanoseconds_of(const struct row *row, double seconds)
 {
+    if (row->input.correction != NULL)
+        return seconds * 1e9 / (double)row->input.correction->calls;
     return seconds * 1e9 / (row->input.kind != NULL ? (double)row->input.size->n : IN_TURN);
 }
 
@@ -263,6 +269,8 @@ static bool agree_on_row(const struct row *row, bool (*agree)(const struct subje
         return lengths_agree(versions[OURS][0], versions[OTHER][0], &subjects[0], lists);
     if (row->input.journal)
         return journals_agree(versions[OURS][0], versions[OTHER][0], &subjects[0], lists);
+    if (row->input.correction != NULL)
+        return row->input.correction->agree();
     if (row->input.orders > 0)
         return agree_in_orders(row->input.orders);
     for (size_t i = 0; i < subjects_made; i++)
@@ -282,6 +290,7 @@ bool agree_on_rows(bool (*agree)(const struct subject *subject))
                    : row->input.archive != NULL ? ", in an archive"
                    : row->input.lengths         ? ", for prefix lengths"
                    : row->input.journal         ? ", for journals"
+                   : row->input.correction      ? ", for corrections"
                    : row->input.orders > 0      ? ", in custom orders"
                                                 : "");
             agreed = false;

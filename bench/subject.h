@@ -77,6 +77,20 @@ struct prefix_lengths {
 };
 typedef struct prefix_lengths lengths_function(const void *prepared, const struct subject *subject, uint16_t *lengths, size_t room);
 
+/* The library's answer to a correction, but for the list; and the call for it, with the place and the entries in use. */
+struct update {
+    uint32_t refusal;
+    size_t used;
+};
+typedef struct update correct_function(const void *prepared, const struct subject *subject, size_t place, uint32_t *positions,
+                                       size_t room, size_t used);
+
+/* What a correction puts in the place of a byte. */
+static inline uint8_t other_than(uint8_t byte)
+{
+    return byte == 'a' ? 'b' : 'a';
+}
+
 /* A journal that is never too short. */
 static inline size_t most_entries(const struct subject *subject)
 {
@@ -115,6 +129,7 @@ struct version {
     /* Into the subject's journal, with a cap that is no more than its length; and by that journal, whatever the cap and the text are.
        Both NULL in a build that has none. */
     search_function *journaled, *replay;
+    correct_function *correct; /* NULL in a build that has none, or isn't linked with it */
     /* Of the record in its archive, and of the directory, with the number of the refusal; all NULL in a build without archives. */
     search_function *colussi_record, *kmp_record;
     uint32_t (*read_directory)(const struct archive *archive);

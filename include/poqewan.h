@@ -1,7 +1,7 @@
 /*
  * Exact search for every occurrence of a byte pattern in a text, with the comparisons of a pattern byte with a text byte
- * counted. Two bytes are equal when their classes are. Link libpoqewan.a and, for archives, libpoqewan_archives.a; they are
- * for x86-64. Example, with each value a class of its own:
+ * counted. Two bytes are equal when their classes are. Link libpoqewan.a; for archives libpoqewan_archives.a as well, and for
+ * corrections libpoqewan_corrections.a. They are for x86-64. Example, with each value a class of its own:
  *
  *     uint8_t classes[POQEWAN_CLASSES];
  *     uint16_t scratch[POQEWAN_SCRATCH];
@@ -54,6 +54,8 @@ extern "C" {
 #define POQEWAN_FALSE_ORDER 16
 #define POQEWAN_SHORT_JOURNAL 17
 #define POQEWAN_FALSE_JOURNAL 18
+#define POQEWAN_FALSE_LIST 19
+#define POQEWAN_SHORT_LIST 20
 
 /* How a search ended: run to its end; or cut off at a window, where a comparison was due and the cap was spent, or where the
    pattern occurred and the list had no free entry. Or nothing was searched, since the archive has no such record. */
@@ -108,6 +110,12 @@ typedef struct poqewan_lengths {
     uint32_t refusal;
     uint64_t count; /* the comparisons of a pattern byte with a text byte */
 } poqewan_lengths;
+
+/* The number of a refusal, and then all else is 0; or 0 and how much of a list is in use. */
+typedef struct poqewan_update {
+    uint32_t refusal;
+    size_t used; /* the entries in use, from the list's start */
+} poqewan_update;
 
 /* The number of a refusal, and then all else is 0; or 0 and the directory of an archive. */
 typedef struct poqewan_directory {
@@ -273,6 +281,23 @@ poqewan_report poqewan_colussi_record(poqewan_pattern pattern, const uint8_t *ar
 /* The same by Knuth, Morris and Pratt: the report and the list are those of poqewan_kmp on the record's bytes. */
 poqewan_report poqewan_kmp_record(poqewan_pattern pattern, const uint8_t *archive, size_t archive_len, uint64_t record,
                                   uint64_t cap, uint32_t *positions, size_t positions_len);
+
+/*
+ * Brings a list of positions up to date after one byte of a text was corrected. `text` is the corrected text, `place` is the
+ * position of that byte, and the first `used` entries of the list are in use. Only windows that cover the place are looked at:
+ * with n text bytes and m pattern bytes, the positions b with b <= place < b + m and b + m <= n. Of these the list then has
+ * exactly those where the pattern occurs. Every other entry is kept, right or wrong. The entries in use ascend, as before, and
+ * those past their new number hold what they held before. A place at or past n changes nothing. Refused, in this order, with
+ * the list unchanged: a pattern that is not what preparation gives for its own length, bytes and classes (4), a text of more than
+ * POQEWAN_LONGEST_TEXT bytes (5), entries in use that are not strictly ascending or are more than the list has (19), more
+ * entries to be in use then than the list has (20).
+ *
+ * The old text is not asked for. If the entries in use were all positions of the pattern in a text that differs from this one at
+ * most at the place, they are then all positions in this one: what poqewan_colussi lists, run to its end. Their number moves by
+ * at most m, whatever the list held. The function is in libpoqewan_corrections.a.
+ */
+poqewan_update poqewan_correct(poqewan_pattern pattern, const uint8_t *text, size_t text_len, size_t place,
+                               uint32_t *positions, size_t positions_len, size_t used);
 
 /* The charge of a count of comparisons: its started thousands. */
 uint64_t poqewan_charge(uint64_t count);

@@ -40,6 +40,13 @@ pub struct Lengths {
     pub count: u64,
 }
 
+/// The number of a refusal, and then all else is 0; or 0 and how much of a list is in use.
+#[repr(C)]
+pub struct Update {
+    pub refusal: u32,
+    pub used: usize,
+}
+
 /// The number of a refusal, and then all else is 0; or 0 and the directory of an archive.
 #[repr(C)]
 pub struct Directory {
@@ -176,6 +183,16 @@ extern "C" {
         positions_len: usize,
     ) -> Report;
 
+    pub fn poqewan_correct(
+        pattern: Pattern,
+        text: *const u8,
+        text_len: usize,
+        place: usize,
+        positions: *mut u32,
+        positions_len: usize,
+        used: usize,
+    ) -> Update;
+
     pub fn poqewan_charge(count: u64) -> u64;
 }
 
@@ -214,6 +231,10 @@ const _: () = {
     assert!(size_of::<Lengths>() == 16);
     assert!(offset_of!(Lengths, refusal) == 0);
     assert!(offset_of!(Lengths, count) == 8);
+
+    assert!(size_of::<Update>() == 16);
+    assert!(offset_of!(Update, refusal) == 0);
+    assert!(offset_of!(Update, used) == 8);
 
     assert!(size_of::<Directory>() == 16);
     assert!(offset_of!(Directory, refusal) == 0);

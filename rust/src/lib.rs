@@ -112,6 +112,27 @@
 //! # Ok::<(), Refusal>(())
 //! ```
 //!
+//! After one byte of a text was corrected, the list brought up to date without a new search:
+//!
+//! ```
+//! use poqewan::{colussi, correct, identity, prepare, Refusal, SCRATCH};
+//!
+//! let pattern = prepare(b"aba", &identity(), &mut [0; SCRATCH])?.pattern;
+//! let mut positions = [0; 8];
+//! let used = colussi(&pattern, b"ababa", u64::MAX, &mut positions)?.written;
+//! assert_eq!(positions[..used], [0, 2]);
+//!
+//! let used = correct(&pattern, b"abbba", 2, &mut positions, used)?;
+//! assert_eq!(used, 0);
+//!
+//! let used = correct(&pattern, b"ababa", 2, &mut positions, used)?;
+//! assert_eq!(positions[..used], [0, 2]);
+//!
+//! let descending = correct(&pattern, b"ababa", 2, &mut [2, 0], 2);
+//! assert_eq!(descending, Err(Refusal::FalseList));
+//! # Ok::<(), Refusal>(())
+//! ```
+//!
 //! Three records in one archive, and a search of one of them:
 //!
 //! ```
@@ -235,6 +256,10 @@ pub enum Refusal {
     /// The journal has an entry whose position is not the one that the rules compare next, or entries
     /// that remain after the search is done or full.
     FalseJournal = 18,
+    /// The list's entries in use are not strictly ascending, or are more than the list has.
+    FalseList = 19,
+    /// The list has fewer entries than would be in use once it is up to date.
+    ShortList = 20,
 }
 
 impl Refusal {
@@ -272,6 +297,12 @@ impl fmt::Display for Refusal {
             Self::FalseJournal => {
                 "the journal has an entry that is not for the position compared next, or entries \
                  after the search's end"
+            }
+            Self::FalseList => {
+                "the list's entries in use are not strictly ascending, or are more than the list has"
+            }
+            Self::ShortList => {
+                "the list has fewer entries than would be in use once it is up to date"
             }
         })
     }
@@ -645,6 +676,49 @@ pub fn kmp_record(
     )
 }
 
+/// Brings a list of positions up to date after one byte of a text was corrected. `text` is the corrected
+/// text, `place` is the position of that byte, and the first `used` entries of the list are in use. Gives
+/// the new number of entries in use.
+///
+/// Only windows that cover the place are looked at: with n text bytes and m pattern bytes, the positions
+/// b with b <= place < b + m and b + m <= n. Of these the list then has exactly those where the pattern
+/// occurs. Every other entry is kept, right or wrong. The entries in use ascend, as before, and those
+/// past their new number hold what they held before. A place at or past n changes nothing.
+///
+/// The old text is not asked for. If the entries in use were all positions of the pattern in a text that
+/// differs from this one at most at the place, they are then all positions in this one: what [`colussi`]
+/// lists, run to its end. Their number moves by at most m, whatever the list held.
+///
+/// # Errors
+///
+/// Refused, in this order, with the list unchanged: a pattern that is not what preparation gives
+/// for its own length, bytes and classes (4), a text of more than [`LONGEST_TEXT`] bytes (5), entries in
+/// use that are not strictly ascending or are more than the list has (19), more entries to be in use then
+/// than the list has (20).
+pub fn correct(
+    pattern: &Pattern,
+    text: &[u8],
+    place: usize,
+    positions: &mut [u32],
+    used: usize,
+) -> Result<usize, Refusal> {
+    // SAFETY: each pointer and its number of elements are those of a slice, and what is written is
+    // borrowed mutably, so it overlaps nothing else. Any value of the pattern is answered, and so is
+    // any number of entries in use.
+    let answer = unsafe {
+        ffi::poqewan_correct(
+            *pattern,
+            text.as_ptr(),
+            text.len(),
+            place,
+            positions.as_mut_ptr(),
+            positions.len(),
+            used,
+        )
+    };
+    used_of(&answer)
+}
+
 /// The charge of a count of comparisons: its started thousands.
 #[must_use]
 pub fn charge(count: u64) -> u64 {
@@ -719,6 +793,8 @@ fn accepted(number: u32) -> Result<(), Refusal> {
         16 => Err(Refusal::FalseOrder),
         17 => Err(Refusal::ShortJournal),
         18 => Err(Refusal::FalseJournal),
+        19 => Err(Refusal::FalseList),
+        20 => Err(Refusal::ShortList),
         other => unreachable!("the library's contract has no refusal {other}"),
     }
 }
@@ -781,13 +857,19 @@ fn count_of(answer: &ffi::Lengths) -> Result<u64, Refusal> {
     Ok(answer.count)
 }
 
+/// Reads how much of a list is in use.
+fn used_of(answer: &ffi::Update) -> Result<usize, Refusal> {
+    accepted(answer.refusal)?;
+    Ok(answer.used)
+}
+
 #[cfg(test)]
 mod tests {
     use super::*;
 
     #[test]
     fn the_number_of_a_refusal_is_read_back_as_that_refusal() {
-        for number in (1..=5).chain([7, 8, 9, 10, 11, 14, 15, 16, 17, 18]) {
+        for number in (1..=5).chain([7, 8, 9, 10, 11, 14, 15, 16, 17, 18, 19, 20]) {
             assert_eq!(accepted(number).map_err(Refusal::number), Err(number));
         }
         assert_eq!(accepted(0), Ok(()));
@@ -931,5 +1013,14 @@ mod tests {
         let refused = ffi::Lengths { refusal: 11, count };
         assert_eq!(count_of(&counted), Ok(count));
         assert_eq!(count_of(&refused), Err(Refusal::ShortLengths));
+    }
+
+    #[test]
+    fn of_an_update_a_refusal_is_read_first_and_then_the_entries_in_use() {
+        let used = u32::MAX as usize + 7;
+        let updated = ffi::Update { refusal: 0, used };
+        let refused = ffi::Update { refusal: 20, used };
+        assert_eq!(used_of(&updated), Ok(used));
+        assert_eq!(used_of(&refused), Err(Refusal::ShortList));
     }
 }

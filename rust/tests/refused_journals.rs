@@ -9,7 +9,9 @@ use common::journals::{
     assert_journal_refused, assert_journaled_refused, assert_replay_refused, Lent,
 };
 use common::worked::NO_CAP;
-use common::{false_patterns, fibonacci, prepared, repeated, Random, Trial};
+use common::{
+    false_patterns, fibonacci, first_of, number_of, prepared, repeated, Random, Trial, LONG_OR_NOT,
+};
 use oracle::lengths::LONGEST_RECORD;
 use oracle::{tables_if_true, LONGEST_PATTERN};
 use poqewan::Ending::{Done, Full, Spent};
@@ -89,31 +91,13 @@ fn patterns() -> [(bool, Pattern); 4] {
     ]
 }
 
-/// The first refusal of three whose conditions are given, in the order of the tests.
-fn first_of(conditions: [bool; 3], last: Refusal) -> Option<Refusal> {
-    let refusals = [FalsePattern, LongText, last];
-    let mut applying = conditions.into_iter().zip(refusals);
-    applying.find(|&(applies, _)| applies).map(|(_, why)| why)
-}
-
-/// Each set of conditions has its number.
-fn number(conditions: [bool; 3]) -> usize {
-    let [first, second, third] = conditions.map(usize::from);
-    first + 2 * second + 4 * third
-}
-
 /// Each set of the conditions of 4, 5 and 17, each condition true in two ways and false in two. The
 /// first in this order is given, and nothing is written.
 #[test]
 fn of_4_5_and_17_the_first_that_applies_is_given() {
     let text = vec![b'a'; LONGEST_TEXT + 2];
     let mut met = [0; 8];
-    for (is_long, n) in [
-        (false, 1_000),
-        (false, LONGEST_TEXT),
-        (true, LONGEST_TEXT + 1),
-        (true, LONGEST_TEXT + 2),
-    ] {
+    for (is_long, n) in LONG_OR_NOT {
         let text = &text[..n];
         for (is_short, cap, journal_len) in [
             (false, 8, 8),
@@ -123,7 +107,7 @@ fn of_4_5_and_17_the_first_that_applies_is_given() {
         ] {
             for (is_false, pattern) in &patterns() {
                 let conditions = [*is_false, is_long, is_short];
-                let first = first_of(conditions, ShortJournal);
+                let first = first_of(conditions, [FalsePattern, LongText, ShortJournal]);
                 let [mut list, mut journal] = [4, journal_len].map(Lent::of);
                 let by_request = oracle::journal::journaled(
                     tables_if_true(pattern).as_ref(),
@@ -143,7 +127,7 @@ fn of_4_5_and_17_the_first_that_applies_is_given() {
                         assert_journaled_refused(pattern, text, cap, [list_len, journal_len], why);
                     }
                 }
-                met[number(conditions)] += 1;
+                met[number_of(conditions)] += 1;
             }
         }
     }
@@ -168,7 +152,7 @@ fn of_4_5_and_18_the_first_that_applies_is_given() {
         ] {
             for (is_false, pattern) in &patterns() {
                 let conditions = [*is_false, is_long, tells_false];
-                let first = first_of(conditions, FalseJournal);
+                let first = first_of(conditions, [FalsePattern, LongText, FalseJournal]);
                 for list_len in [0, 1, 8] {
                     let mut list = Lent::of(list_len);
                     let by_request = oracle::journal::replay(
@@ -187,7 +171,7 @@ fn of_4_5_and_18_the_first_that_applies_is_given() {
                         }
                     }
                 }
-                met[number(conditions)] += 1;
+                met[number_of(conditions)] += 1;
             }
         }
     }

@@ -6,7 +6,9 @@ mod oracle;
 
 use common::classes::{joined, with_classes};
 use common::lengths::assert_lengths_refused;
-use common::{changed, fibonacci, prepared, repeated, words_of_lengths, Random, Trial};
+use common::{
+    changed, fibonacci, number_of, prepared, repeated, words_of_lengths, Random, Trial, LONG_OR_NOT,
+};
 use oracle::lengths::LONGEST_RECORD;
 use oracle::{identity, LONGEST_PATTERN};
 use poqewan::Refusal::{FalsePattern, LongText, ShortLengths};
@@ -177,12 +179,7 @@ fn of_4_5_and_11_the_first_that_applies_is_given() {
         (true, Pattern { noholes, ..one }),
     ];
     let mut met = [0; 8];
-    for (is_long, n) in [
-        (false, 1_000),
-        (false, LONGEST_TEXT),
-        (true, LONGEST_TEXT + 1),
-        (true, LONGEST_TEXT + 2),
-    ] {
+    for (is_long, n) in LONG_OR_NOT {
         let text = &text[..n];
         for (is_short, list_len) in [(false, n), (false, n + 1), (true, n - 1), (true, 0)] {
             for (is_false, pattern) in &patterns {
@@ -192,8 +189,7 @@ fn of_4_5_and_11_the_first_that_applies_is_given() {
                     (_, _, true) => assert_lengths_refused(pattern, text, list_len, ShortLengths),
                     _ => assert!(prefix_lengths(pattern, text, &mut vec![7; list_len]).is_ok()),
                 }
-                let conditions = [*is_false, is_long, is_short].map(usize::from);
-                met[conditions[0] + 2 * conditions[1] + 4 * conditions[2]] += 1;
+                met[number_of([*is_false, is_long, is_short])] += 1;
             }
         }
     }

@@ -9,8 +9,8 @@ use common::orders::{
 };
 use common::worked::NO_CAP;
 use common::{
-    changed, false_patterns, fibonacci, prepared, repeated, words_of_lengths, Random, Trial,
-    UNWRITTEN,
+    changed, false_patterns, fibonacci, first_of, number_of, prepared, repeated, words_of_lengths,
+    Random, Trial, LONG_OR_NOT, UNWRITTEN,
 };
 use oracle::lengths::LONGEST_RECORD;
 use oracle::ordered::{are_places, refusal};
@@ -284,29 +284,19 @@ fn of_4_16_and_5_the_first_that_applies_is_given() {
         (true, &[0, 1, 2, 3]),
     ];
     let mut met = [0; 8];
-    for (is_long, n) in [
-        (false, 1_000),
-        (false, LONGEST_TEXT),
-        (true, LONGEST_TEXT + 1),
-        (true, LONGEST_TEXT + 2),
-    ] {
+    for (is_long, n) in LONG_OR_NOT {
         let text = &text[..n];
         for (is_none, order) in orders {
             for (is_false, pattern) in &patterns {
                 let tables = tables_if_true(pattern);
-                let first = match (*is_false, is_none, is_long) {
-                    (true, _, _) => Some(FalsePattern),
-                    (_, true, _) => Some(FalseOrder),
-                    (_, _, true) => Some(LongText),
-                    _ => None,
-                };
+                let conditions = [*is_false, is_none, is_long];
+                let first = first_of(conditions, [FalsePattern, FalseOrder, LongText]);
                 assert_eq!(refusal(tables.as_ref(), order, n), first);
                 match first {
                     Some(why) => assert_order_refused(pattern, order, text, why),
                     None => assert!(ordered(pattern, order, text, 10, &mut [0; 8]).is_ok()),
                 }
-                let conditions = [*is_false, is_none, is_long].map(usize::from);
-                met[conditions[0] + 2 * conditions[1] + 4 * conditions[2]] += 1;
+                met[number_of(conditions)] += 1;
             }
         }
     }

@@ -51,6 +51,14 @@ uint64_t charge_of_lengths(const poqewan_pattern *pattern, const uint8_t *text, 
     return l.refusal == POQEWAN_SHORT_LENGTHS ? 0 : poqewan_charge(l.count);
 }
 
+size_t used_after(const poqewan_pattern *pattern, const uint8_t *text, size_t n, size_t place, uint32_t *positions, size_t used);
+
+size_t used_after(const poqewan_pattern *pattern, const uint8_t *text, size_t n, size_t place, uint32_t *positions, size_t used)
+{
+    poqewan_update u = poqewan_correct(*pattern, text, n, place, positions, 8192, used);
+    return u.refusal == POQEWAN_FALSE_LIST || u.refusal == POQEWAN_SHORT_LIST ? used : u.used;
+}
+
 uint64_t charge_of_record(const poqewan_pattern *pattern, const uint8_t *archive, size_t len, uint64_t record);
 
 uint64_t charge_of_record(const poqewan_pattern *pattern, const uint8_t *archive, size_t len, uint64_t record)

@@ -36,6 +36,8 @@ _Static_assert(POQEWAN_ZERO_CLASS_SHARED == 15, "zero's class shared");
 _Static_assert(POQEWAN_FALSE_ORDER == 16, "false order");
 _Static_assert(POQEWAN_SHORT_JOURNAL == 17, "short journal");
 _Static_assert(POQEWAN_FALSE_JOURNAL == 18, "false journal");
+_Static_assert(POQEWAN_FALSE_LIST == 19, "false list");
+_Static_assert(POQEWAN_SHORT_LIST == 20, "short list");
 
 /* The numbers of the endings. */
 _Static_assert(POQEWAN_DONE == 0, "done");
@@ -73,6 +75,9 @@ _Static_assert(offsetof(poqewan_first, count) == 16, "count");
 _Static_assert(sizeof(poqewan_lengths) == 16, "poqewan_lengths");
 _Static_assert(offsetof(poqewan_lengths, refusal) == 0, "refusal");
 _Static_assert(offsetof(poqewan_lengths, count) == 8, "count");
+_Static_assert(sizeof(poqewan_update) == 16, "poqewan_update");
+_Static_assert(offsetof(poqewan_update, refusal) == 0, "refusal");
+_Static_assert(offsetof(poqewan_update, used) == 8, "used");
 _Static_assert(sizeof(poqewan_directory) == 16, "poqewan_directory");
 _Static_assert(offsetof(poqewan_directory, refusal) == 0, "refusal");
 _Static_assert(offsetof(poqewan_directory, records) == 4, "records");
@@ -265,6 +270,11 @@ static bool is_lengths(poqewan_lengths lengths, uint32_t refusal, uint64_t count
     return lengths.refusal == refusal && lengths.count == count;
 }
 
+static bool is_update(poqewan_update update, uint32_t refusal, size_t used)
+{
+    return update.refusal == refusal && update.used == used;
+}
+
 /* Field by field: what the padding holds is nobody's promise. */
 static bool is_zero(const poqewan_pattern *pattern)
 {
@@ -322,7 +332,7 @@ static poqewan_pattern prepared(const char *word)
 
 /* All searches must refuse with this number and leave the list as it is. The list of lengths has an entry for each byte, and the
    custom order has the places from left to right. The journal of a search is left as it is, too, and may be short; that of a replay
-   may be false. */
+   may be false. A correction must refuse as well, with no entries in use, and with such as do not ascend or are too many. */
 static void check_refused(const poqewan_pattern *pattern, const uint8_t *text, size_t text_len, uint32_t number)
 {
     size_t order_len = pattern->len < sizeof own ? pattern->len : sizeof own;
@@ -344,6 +354,10 @@ static void check_refused(const poqewan_pattern *pattern, const uint8_t *text, s
     }
     CHECK(is_lengths(poqewan_prefix_lengths(*pattern, text, text_len, lengths, text_len), number, 0));
     CHECK(numbers_are(lengths, 0, text_len, UNTOUCHED));
+    for (size_t used = 0; used <= 6; used += 2) {
+        CHECK(is_update(poqewan_correct(*pattern, text, text_len, 0, list, 4, used), number, 0));
+        CHECK(unwritten(list, 0, 4));
+    }
     free(lengths);
     free(journal);
     free(list);
@@ -796,6 +810,15 @@ static void test_null(void)
     CHECK(is_lengths(poqewan_prefix_lengths(pattern, a, 0, lengths, 1), 0, 0));
     CHECK(is_lengths(poqewan_prefix_lengths(pattern, a, 1, NULL, 0), POQEWAN_SHORT_LENGTHS, 0));
     CHECK(numbers_are(lengths, 0, 1, UNTOUCHED));
+    CHECK(is_update(poqewan_correct(pattern, NULL, 0, 0, NULL, 0, 0), 0, 0));
+    CHECK(is_update(poqewan_correct(pattern, NULL, 0, 0, list, 1, 0), 0, 0));
+    CHECK(is_update(poqewan_correct(pattern, NULL, 0, 0, list, 1, 1), 0, 1));
+    CHECK(is_update(poqewan_correct(pattern, a, 1, 1, NULL, 0, 0), 0, 0));
+    CHECK(is_update(poqewan_correct(pattern, (const uint8_t *)"b", 1, 0, NULL, 0, 0), 0, 0));
+    CHECK(is_update(poqewan_correct(pattern, a, 1, 0, NULL, 0, 0), POQEWAN_SHORT_LIST, 0));
+    CHECK(is_update(poqewan_correct(pattern, a, 1, 0, NULL, 0, 1), POQEWAN_FALSE_LIST, 0));
+    CHECK(is_update(poqewan_correct(pattern, NULL, 0, 0, NULL, 0, SIZE_MAX), POQEWAN_FALSE_LIST, 0));
+    CHECK(unwritten(list, 0, 1));
     pattern.noholes++;
     check_refused(&pattern, NULL, 0, POQEWAN_FALSE_PATTERN);
     free(lengths);
@@ -827,6 +850,7 @@ static void test_changed_patterns(void)
                 CHECK(is_report(poqewan_replay(changed, 12, NULL, 0, NULL, 0), POQEWAN_SPENT, 0, none, 0));
                 CHECK(poqewan_find_first(changed, text, 12).found == 1);
                 CHECK(poqewan_prefix_lengths(changed, text, 12, lengths, 12).refusal == 0);
+                CHECK(is_update(poqewan_correct(changed, text, 12, 12, NULL, 0, 0), 0, 0));
             } else {
                 check_refused(&changed, text, 12, POQEWAN_FALSE_PATTERN);
             }
@@ -1888,10 +1912,10 @@ static void test_random_lengths(size_t rounds)
     CHECK(found > 0);
 }
 
-/* The refusal of the first of three conditions that is chosen, or 0. */
-static uint32_t first_chosen(int chosen, const uint32_t refusals[3])
+/* The refusal of the first condition that is chosen, or 0. */
+static uint32_t first_chosen(int chosen, const uint32_t *refusals)
 {
-    for (int i = 0; i < 3; i++)
+    for (int i = 0; chosen >> i != 0; i++)
         if (chosen & 1 << i)
             return refusals[i];
     return 0;
@@ -3010,8 +3034,8 @@ static void test_journal_of_longest_text(void)
     free(text);
 }
 
-/* Numbers past 2^32: caps, journals and lists that are short or empty by their lower half alone. They are addresses without memory:
-   only the first entries are touched. Where a system grants no such addresses, it says so and goes on. */
+/* Numbers past 2^32: caps, journals, lists and entries in use that are short, empty or few by their lower half alone. They are
+   addresses without memory: only the first entries are touched. Where a system grants no such addresses, it says so and goes on. */
 static void test_numbers_past_32_bits(void)
 {
     const size_t past = (size_t)1 << 32, bytes = (past + 5) * sizeof(uint32_t);
@@ -3044,9 +3068,475 @@ static void test_numbers_past_32_bits(void)
     CHECK(unwritten(list, 0, 2) && list[2] == 0);
     CHECK(is_report(poqewan_replay(pattern, 5, list, past, journal, 5), POQEWAN_DONE, 0, counts, 2));
     CHECK(same_entries(list, positions, 2) && list[2] == 0);
+    CHECK(is_update(poqewan_correct(pattern, text, 5, 2, list, past, 2), 0, 2));
+    CHECK(is_update(poqewan_correct(pattern, text, 5, 2, list, past, 0), 0, 2));
+    CHECK(is_update(poqewan_correct(pattern, text, 5, 2, list, past, past), POQEWAN_FALSE_LIST, 0));
+    CHECK(is_update(poqewan_correct(pattern, text, 5, 2, list, past + 5, past + 2), POQEWAN_FALSE_LIST, 0));
+    CHECK(is_update(poqewan_correct(pattern, text, 5, 2, list, 5, past + 2), POQEWAN_FALSE_LIST, 0));
+    CHECK(same_entries(list, positions, 2) && list[2] == 0);
     free(text);
     for (int i = 0; i < 2; i++)
         munmap(lent[i], bytes);
+}
+
+/* What a correction shall leave, by the words of the request: a window that covers the place is listed if the pattern occurs there,
+   and any other position if it was. The old list ascends. Gives the number of entries. */
+static size_t corrected(const poqewan_pattern *pattern, const uint8_t *text, size_t n, size_t place, const uint32_t *before,
+                        size_t used, uint32_t *after)
+{
+    size_t m = pattern->len, i = 0, written = 0;
+    for (size_t b = 0; b < n; b++) {
+        bool listed = i < used && before[i] == b;
+        i += listed;
+        if (b <= place && place < b + m && b + m <= n && place < n ? occurs(pattern, text, n, b) : listed)
+            after[written++] = (uint32_t)b;
+    }
+    while (i < used)
+        after[written++] = before[i++];
+    return written;
+}
+
+static bool ascends(const uint32_t *list, size_t len)
+{
+    for (size_t i = 1; i < len; i++)
+        if (list[i - 1] >= list[i])
+            return false;
+    return true;
+}
+
+/* Corrects a copy of a list, with memory around it that stays, and checks the answer and the whole list. The pattern is true, and
+   the text not too long. */
+static poqewan_update check_correct(const poqewan_pattern *pattern, const uint8_t *text, size_t n, size_t place,
+                                    const uint32_t *before, size_t list_len, size_t used)
+{
+    uint32_t refusal = POQEWAN_FALSE_LIST, *list = lend_guarded(list_len), *after = lend((n + list_len) * sizeof *after);
+    uint8_t *lent = lend_bytes(text, n);
+    size_t used_after = 0;
+    if (list_len > 0)
+        memcpy(list, before, list_len * sizeof *list);
+    if (used <= list_len && ascends(before, used)) {
+        used_after = corrected(pattern, text, n, place, before, used, after);
+        refusal = used_after > list_len ? POQEWAN_SHORT_LIST : 0;
+    }
+    poqewan_update update = poqewan_correct(*pattern, lent, n, place, list, list_len, used);
+    size_t changed = refusal == 0 ? used_after : 0;
+    CHECK(is_update(update, refusal, changed));
+    CHECK(same_entries(list, after, changed) && same_entries(list + changed, before + changed, list_len - changed));
+    CHECK(n == 0 || memcmp(lent, text, n) == 0);
+    free(lent);
+    free(after);
+    free_guarded(list, list_len);
+    return update;
+}
+
+/* The positions whose bits are in the set, in lists that are short by one entry, as long as must be, and longer by one. */
+static void check_list_lengths(const poqewan_pattern *pattern, const uint8_t *text, size_t n, size_t place, size_t set)
+{
+    uint32_t before[8], after[16];
+    size_t used = 0;
+    for (size_t b = 0; b <= n; b++)
+        if (set >> b & 1)
+            before[used++] = (uint32_t)b;
+    size_t used_after = corrected(pattern, text, n, place, before, used, after), needed = used > used_after ? used : used_after;
+    for (size_t i = used; i < 8; i++)
+        before[i] = UNWRITTEN;
+    for (size_t list_len = needed > 0 ? needed - 1 : 0; list_len <= needed + 1; list_len++)
+        check_correct(pattern, text, n, place, before, list_len, used);
+}
+
+/* Worked by hand from the words of the request, with the whole list before and after. Places at both ends of the text, between them
+   and past it; entries that move right, move left, and stay; what was in use past the new number; wrong lists; entries that cover
+   the place but are no window, and such as are no position of the text; lists that are full, become full, and are short by one;
+   entries in use that are too many, or don't ascend, and the same past them; texts shorter than the pattern, and as long; patterns
+   of one byte; byte 0 in the text; and by the joined classes. */
+static const struct correct_record {
+    const uint8_t *classes;
+    const char *pattern, *text;
+    size_t n, place;
+    size_t list_len, used;
+    uint32_t before[4];
+    uint32_t refusal;
+    size_t used_after;
+    uint32_t after[4];
+} correct_records[] = {
+    {own, "aba", TEXT("ababa"), 0, 4, 0, {9, 9, 9, 9}, 0, 1, {0, 9, 9, 9}},
+    {own, "aba", TEXT("ababa"), 1, 4, 0, {9, 9, 9, 9}, 0, 1, {0, 9, 9, 9}},
+    {own, "aba", TEXT("ababa"), 2, 4, 0, {9, 9, 9, 9}, 0, 2, {0, 2, 9, 9}},
+    {own, "aba", TEXT("ababa"), 3, 4, 0, {9, 9, 9, 9}, 0, 1, {2, 9, 9, 9}},
+    {own, "aba", TEXT("ababa"), 4, 4, 0, {9, 9, 9, 9}, 0, 1, {2, 9, 9, 9}},
+    {own, "aba", TEXT("ababa"), 5, 4, 0, {9, 9, 9, 9}, 0, 0, {9, 9, 9, 9}},
+    {own, "aba", TEXT("ababa"), 6, 4, 0, {9, 9, 9, 9}, 0, 0, {9, 9, 9, 9}},
+    {own, "aba", TEXT("ababa"), SIZE_MAX, 4, 0, {9, 9, 9, 9}, 0, 0, {9, 9, 9, 9}},
+    {own, "aba", TEXT("ababa"), (size_t)1 << 32 | 2, 4, 0, {9, 9, 9, 9}, 0, 0, {9, 9, 9, 9}},
+    {own, "aba", TEXT("ababa"), 5, 4, 3, {1, 2, 5, 9}, 0, 3, {1, 2, 5, 9}},
+    {own, "aba", TEXT("ababa"), 6, 4, 3, {1, 2, 5, 9}, 0, 3, {1, 2, 5, 9}},
+    {own, "aba", TEXT("ababa"), SIZE_MAX, 4, 3, {1, 2, 5, 9}, 0, 3, {1, 2, 5, 9}},
+    {own, "aba", TEXT("ababa"), SIZE_MAX - 2, 4, 3, {1, 2, 5, 9}, 0, 3, {1, 2, 5, 9}},
+    {own, "aba", TEXT("ababa"), UINT32_MAX, 4, 1, {UINT32_MAX, 9, 9, 9}, 0, 1, {UINT32_MAX, 9, 9, 9}},
+    {own, "aba", TEXT("ababa"), 0, 4, 1, {2, 9, 9, 9}, 0, 2, {0, 2, 9, 9}},
+    {own, "aba", TEXT("ababa"), 4, 4, 1, {0, 9, 9, 9}, 0, 2, {0, 2, 9, 9}},
+    {own, "aba", TEXT("ababa"), 2, 4, 2, {0, 2, 9, 9}, 0, 2, {0, 2, 9, 9}},
+    {own, "aba", TEXT("abbba"), 2, 4, 2, {0, 2, 9, 9}, 0, 0, {0, 2, 9, 9}},
+    {own, "aba", TEXT("cbaba"), 0, 4, 2, {0, 2, 9, 9}, 0, 1, {2, 2, 9, 9}},
+    {own, "aba", TEXT("ababc"), 4, 4, 2, {0, 2, 9, 9}, 0, 1, {0, 2, 9, 9}},
+    {own, "aba", TEXT("abcba"), 2, 4, 4, {0, 2, 3, 5}, 0, 2, {3, 5, 3, 5}},
+    {own, "aba", TEXT("ababa"), 2, 4, 3, {0, 1, 2, 9}, 0, 2, {0, 2, 2, 9}},
+    {own, "aba", TEXT("ababa"), 2, 4, 1, {1, 9, 9, 9}, 0, 2, {0, 2, 9, 9}},
+    {own, "aba", TEXT("ababa"), 0, 4, 2, {0, 1, 9, 9}, 0, 2, {0, 1, 9, 9}},
+    {own, "aba", TEXT("ababa"), 0, 4, 2, {1, 3, 9, 9}, 0, 3, {0, 1, 3, 9}},
+    {own, "aba", TEXT("ababa"), 4, 4, 2, {0, 1, 9, 9}, 0, 3, {0, 1, 2, 9}},
+    {own, "aba", TEXT("ababa"), 4, 4, 2, {3, 4, 9, 9}, 0, 3, {2, 3, 4, 9}},
+    {own, "aba", TEXT("ababa"), 3, 4, 3, {1, 3, 4, 9}, 0, 3, {2, 3, 4, 9}},
+    {own, "aba", TEXT("ababa"), 4, 4, 4, {1, 3, 4, 5}, POQEWAN_SHORT_LIST, 0, {1, 3, 4, 5}},
+    {own, "aba", TEXT("ccccc"), 3, 4, 4, {0, 1, 2, 3}, 0, 2, {0, 3, 2, 3}},
+    {own, "aba", TEXT("ababa"), 2, 4, 2, {5, UINT32_MAX, 9, 9}, 0, 4, {0, 2, 5, UINT32_MAX}},
+    {own, "aba", TEXT("ababa"), 0, 4, 2, {UINT32_C(0x7FFFFFFF), UINT32_C(0x80000000), 9, 9}, 0, 3,
+     {0, UINT32_C(0x7FFFFFFF), UINT32_C(0x80000000), 9}},
+    {own, "aba", TEXT("ababa"), 4, 4, 2, {UINT32_MAX - 1, UINT32_MAX, 9, 9}, 0, 3, {2, UINT32_MAX - 1, UINT32_MAX, 9}},
+    {own, "aba", TEXT("ababa"), 2, 2, 0, {9, 9}, 0, 2, {0, 2}},
+    {own, "aba", TEXT("ababa"), 2, 1, 0, {9}, POQEWAN_SHORT_LIST, 0, {9}},
+    {own, "aba", TEXT("ababa"), 2, 0, 0, {0}, POQEWAN_SHORT_LIST, 0, {0}},
+    {own, "aba", TEXT("abbba"), 2, 0, 0, {0}, 0, 0, {0}},
+    {own, "aba", TEXT("ababa"), 5, 0, 0, {0}, 0, 0, {0}},
+    {own, "aba", TEXT("ababa"), 4, 3, 2, {0, 7, 9}, 0, 3, {0, 2, 7}},
+    {own, "aba", TEXT("ababa"), 4, 2, 2, {0, 7}, POQEWAN_SHORT_LIST, 0, {0, 7}},
+    {own, "aba", TEXT("ababa"), 2, 2, 2, {1, 7}, POQEWAN_SHORT_LIST, 0, {1, 7}},
+    {own, "aba", TEXT("ababa"), 2, 3, 2, {1, 7, 9}, 0, 3, {0, 2, 7}},
+    {own, "aba", TEXT("ababa"), 2, 1, 1, {1}, POQEWAN_SHORT_LIST, 0, {1}},
+    {own, "aba", TEXT("ababa"), 2, 2, 2, {1, 2}, 0, 2, {0, 2}},
+    {own, "aba", TEXT("ababa"), 2, 2, 2, {0, 1}, 0, 2, {0, 2}},
+    {own, "aba", TEXT("abbba"), 2, 2, 2, {0, 2}, 0, 0, {0, 2}},
+    {own, "aba", TEXT("ababa"), 5, 2, 2, {7, 8}, 0, 2, {7, 8}},
+    {own, "aba", TEXT("ababa"), 2, 2, 3, {0, 2}, POQEWAN_FALSE_LIST, 0, {0, 2}},
+    {own, "aba", TEXT("ababa"), 2, 2, SIZE_MAX, {0, 2}, POQEWAN_FALSE_LIST, 0, {0, 2}},
+    {own, "aba", TEXT("ababa"), 2, 2, (size_t)1 << 32, {0, 2}, POQEWAN_FALSE_LIST, 0, {0, 2}},
+    {own, "aba", TEXT("ababa"), 2, 0, 1, {0}, POQEWAN_FALSE_LIST, 0, {0}},
+    {own, "aba", TEXT("ababa"), 5, 0, SIZE_MAX, {0}, POQEWAN_FALSE_LIST, 0, {0}},
+    {own, "aba", TEXT("ababa"), 2, 4, 2, {2, 2, 9, 9}, POQEWAN_FALSE_LIST, 0, {2, 2, 9, 9}},
+    {own, "aba", TEXT("ababa"), 2, 4, 2, {2, 0, 9, 9}, POQEWAN_FALSE_LIST, 0, {2, 0, 9, 9}},
+    {own, "aba", TEXT("ababa"), 2, 4, 3, {0, 0, 2, 9}, POQEWAN_FALSE_LIST, 0, {0, 0, 2, 9}},
+    {own, "aba", TEXT("ababa"), 2, 4, 3, {0, 2, 2, 9}, POQEWAN_FALSE_LIST, 0, {0, 2, 2, 9}},
+    {own, "aba", TEXT("ababa"), 2, 4, 4, {0, 2, 4, 3}, POQEWAN_FALSE_LIST, 0, {0, 2, 4, 3}},
+    {own, "aba", TEXT("ababa"), 2, 4, 4, {5, 6, 8, 8}, POQEWAN_FALSE_LIST, 0, {5, 6, 8, 8}},
+    {own, "aba", TEXT("ababa"), 2, 4, 2, {UINT32_MAX, UINT32_MAX, 9, 9}, POQEWAN_FALSE_LIST, 0, {UINT32_MAX, UINT32_MAX, 9, 9}},
+    {own, "aba", TEXT("ababa"), 2, 4, 2, {UINT32_MAX, 0, 9, 9}, POQEWAN_FALSE_LIST, 0, {UINT32_MAX, 0, 9, 9}},
+    {own, "aba", TEXT("ababa"), 5, 4, 2, {2, 2, 9, 9}, POQEWAN_FALSE_LIST, 0, {2, 2, 9, 9}},
+    {own, "aba", TEXT("ababa"), SIZE_MAX, 4, 2, {2, 0, 9, 9}, POQEWAN_FALSE_LIST, 0, {2, 0, 9, 9}},
+    {own, "aba", TEXT("ab"), 0, 4, 2, {1, 1, 9, 9}, POQEWAN_FALSE_LIST, 0, {1, 1, 9, 9}},
+    {own, "aba", TEXT("ababa"), 2, 4, 2, {0, 2, 2, 0}, 0, 2, {0, 2, 2, 0}},
+    {own, "aba", TEXT("ababa"), 4, 4, 1, {0, 0, 0, 0}, 0, 2, {0, 2, 0, 0}},
+    {own, "aba", TEXT("ababa"), 2, 4, 0, {2, 1, 0, 0}, 0, 2, {0, 2, 0, 0}},
+    {own, "aba", TEXT("ab"), 1, 4, 2, {0, 1, 9, 9}, 0, 2, {0, 1, 9, 9}},
+    {own, "aba", TEXT("ab"), 0, 4, 0, {9, 9, 9, 9}, 0, 0, {9, 9, 9, 9}},
+    {own, "aba", TEXT(""), 0, 4, 1, {0, 9, 9, 9}, 0, 1, {0, 9, 9, 9}},
+    {own, "aba", TEXT(""), 0, 0, 0, {0}, 0, 0, {0}},
+    {own, "aba", TEXT("aba"), 0, 4, 0, {9, 9, 9, 9}, 0, 1, {0, 9, 9, 9}},
+    {own, "aba", TEXT("aba"), 2, 4, 0, {9, 9, 9, 9}, 0, 1, {0, 9, 9, 9}},
+    {own, "aba", TEXT("abc"), 2, 4, 3, {0, 1, 2, 9}, 0, 2, {1, 2, 2, 9}},
+    {own, "aba", TEXT("aba"), 3, 4, 0, {9, 9, 9, 9}, 0, 0, {9, 9, 9, 9}},
+    {own, "aa", TEXT("aaaa"), 1, 4, 1, {2, 9, 9, 9}, 0, 3, {0, 1, 2, 9}},
+    {own, "aa", TEXT("aaaa"), 2, 4, 1, {0, 9, 9, 9}, 0, 3, {0, 1, 2, 9}},
+    {own, "aa", TEXT("aaba"), 2, 4, 3, {0, 1, 2, 9}, 0, 1, {0, 1, 2, 9}},
+    {own, "aa", TEXT("baaa"), 0, 4, 3, {0, 1, 2, 9}, 0, 2, {1, 2, 2, 9}},
+    {own, "a", TEXT("aab"), 0, 4, 0, {9, 9, 9, 9}, 0, 1, {0, 9, 9, 9}},
+    {own, "a", TEXT("aab"), 1, 4, 1, {0, 9, 9, 9}, 0, 2, {0, 1, 9, 9}},
+    {own, "a", TEXT("aab"), 2, 4, 3, {0, 1, 2, 9}, 0, 2, {0, 1, 2, 9}},
+    {own, "a", TEXT("aab"), 3, 4, 1, {3, 9, 9, 9}, 0, 1, {3, 9, 9, 9}},
+    {own, "a", TEXT("b"), 0, 1, 1, {0}, 0, 0, {0}},
+    {own, "a", TEXT(""), 0, 1, 1, {0}, 0, 1, {0}},
+    {own, "aba", TEXT("ab\0ba"), 2, 4, 2, {0, 2, 9, 9}, 0, 0, {0, 2, 9, 9}},
+    {own, "aba", TEXT("\0\0aba"), 2, 4, 0, {9, 9, 9, 9}, 0, 1, {2, 9, 9, 9}},
+    {joined, "aBa", TEXT("AcAbA"), 2, 4, 0, {9, 9, 9, 9}, 0, 2, {0, 2, 9, 9}},
+    {own, "aBa", TEXT("AcAbA"), 2, 4, 2, {0, 2, 9, 9}, 0, 0, {0, 2, 9, 9}},
+    {joined, "bca", TEXT("cabBA"), 4, 4, 1, {1, 9, 9, 9}, 0, 2, {1, 2, 9, 9}},
+};
+
+static void test_worked_corrections(void)
+{
+    for (size_t i = 0; i < sizeof correct_records / sizeof *correct_records; i++) {
+        const struct correct_record *r = &correct_records[i];
+        poqewan_pattern pattern = prepared_by(r->classes, r->pattern);
+        uint8_t *text = lend_bytes(r->text, r->n);
+        uint32_t *list = lend_entries(r->before, r->list_len);
+        CHECK(is_update(poqewan_correct(pattern, text, r->n, r->place, list, r->list_len, r->used), r->refusal, r->used_after));
+        CHECK(same_entries(list, r->after, r->list_len));
+        CHECK(r->n == 0 || memcmp(text, r->text, r->n) == 0);
+        CHECK(is_update(check_correct(&pattern, text, r->n, r->place, r->before, r->list_len, r->used), r->refusal, r->used_after));
+        free(list);
+        free(text);
+    }
+}
+
+/* Every pattern in every text over two letters, at every place and one past them, with every list of positions up to the text's
+   length. */
+static void test_all_corrections(bool quick)
+{
+    const size_t longest_pattern = quick ? 2 : 3, longest_text = quick ? 3 : 5;
+    uint8_t bytes[3];
+    for (size_t m = 1; m <= longest_pattern; m++)
+        for (size_t word = 0; word < words_of(m, 2); word++) {
+            put_word(bytes, m, 2, word);
+            poqewan_pattern pattern = prepare(bytes, m, POQEWAN_SCRATCH, 0).pattern;
+            for (size_t n = 0; n <= longest_text; n++) {
+                uint8_t *text = lend(n);
+                for (size_t number = 0; number < words_of(n, 2); number++) {
+                    put_word(text, n, 2, number);
+                    for (size_t place = 0; place <= n; place++)
+                        for (size_t set = 0; set < (size_t)1 << (n + 1); set++)
+                            check_list_lengths(&pattern, text, n, place, set);
+                }
+                free(text);
+            }
+        }
+}
+
+/* The longest pattern, of one letter, in a text of that letter: each place is covered by every window from m - 1 before it, or from
+   the first, up to it, or up to the last. An empty list gets all of them, and a list of all windows loses them when the byte is
+   another. Texts that are as long as the pattern, shorter by a byte, and longer by one, by some and by many. */
+static void test_corrections_of_the_longest(void)
+{
+    const size_t m = POQEWAN_LONGEST_PATTERN;
+    const size_t sizes[] = {AROUND(m), m + 10, 2 * m, 3 * m};
+    uint8_t bytes[POQEWAN_LONGEST_PATTERN];
+    memset(bytes, 'a', m);
+    poqewan_pattern pattern = prepare(bytes, m, POQEWAN_SCRATCH, 0).pattern;
+    for (size_t i = 0; i < sizeof sizes / sizeof *sizes; i++) {
+        size_t n = sizes[i], windows = n < m ? 0 : n - m + 1;
+        size_t places[] = {0, 1, AROUND(m - 1), n / 2, n - m, n - m + 1, n - 2, n - 1, n, n + 1, SIZE_MAX};
+        uint8_t *text = lend(n);
+        uint32_t *none_listed = lend_list(windows), *all = lend_list(windows);
+        for (size_t b = 0; b < windows; b++)
+            all[b] = (uint32_t)b;
+        for (size_t j = 0; j < sizeof places / sizeof *places; j++) {
+            size_t place = places[j], from = place < m ? 0 : place - m + 1, to = place < windows ? place + 1 : windows;
+            size_t covering = place < n ? to - from : 0;
+            memset(text, 'a', n);
+            CHECK(is_update(check_correct(&pattern, text, n, place, all, windows, windows), 0, windows));
+            CHECK(is_update(check_correct(&pattern, text, n, place, none_listed, windows, 0), 0, covering));
+            CHECK(is_update(check_correct(&pattern, text, n, place, none_listed, covering, 0), 0, covering));
+            if (covering > 0)
+                CHECK(is_update(check_correct(&pattern, text, n, place, none_listed, covering - 1, 0), POQEWAN_SHORT_LIST, 0));
+            if (place < n)
+                text[place] = 'b';
+            CHECK(is_update(check_correct(&pattern, text, n, place, all, windows, windows), 0, windows - covering));
+        }
+        free(all);
+        free(none_listed);
+        free(text);
+    }
+}
+
+/* Each value as a pattern of one byte, in a text of all values: it is equal to itself alone, so that of the lists with one position
+   each, which is the place, its own stays. */
+static void test_correction_of_each_value(void)
+{
+    uint8_t *text = lend_bytes(own, POQEWAN_CLASSES);
+    for (unsigned value = 1; value < POQEWAN_CLASSES; value++) {
+        uint8_t byte = (uint8_t)value;
+        poqewan_pattern pattern = prepare(&byte, 1, POQEWAN_SCRATCH, 0).pattern;
+        bool right = true;
+        for (size_t place = 0; place < POQEWAN_CLASSES; place++) {
+            uint32_t entry = (uint32_t)place;
+            right = right && is_update(poqewan_correct(pattern, text, POQEWAN_CLASSES, place, &entry, 1, 1), 0, place == value);
+        }
+        CHECK(right);
+    }
+    free(text);
+}
+
+/* Positions and entries past 2^16: aa in a^n, which has an occurrence in each window. The first byte, one at 2^16 and the last are
+   corrected to b and back, so that all entries, some and none move. */
+static void test_corrections_past_16_bits(void)
+{
+    const size_t n = 65536 + 300, places[] = {0, 1, AROUND(65536), n - 2, n - 1};
+    poqewan_pattern pattern = prepared("aa");
+    uint8_t *text = lend(n);
+    uint32_t *list = lend_list(n - 1), *fewer = lend_list(n - 1);
+    memset(text, 'a', n);
+    CHECK(poqewan_colussi(pattern, text, n, UINT64_MAX, list, n - 1).written == n - 1);
+    for (size_t i = 0; i < sizeof places / sizeof *places; i++) {
+        size_t place = places[i], covering = place == 0 || place == n - 1 ? 1 : 2;
+        text[place] = 'b';
+        CHECK(is_update(check_correct(&pattern, text, n, place, list, n - 1, n - 1), 0, n - 1 - covering));
+        CHECK(poqewan_colussi(pattern, text, n, UINT64_MAX, fewer, n - 1).written == n - 1 - covering);
+        text[place] = 'a';
+        CHECK(is_update(check_correct(&pattern, text, n, place, fewer, n - 1, n - 1 - covering), 0, n - 1));
+        CHECK(is_update(check_correct(&pattern, text, n, place, fewer, n - 2, n - 1 - covering), POQEWAN_SHORT_LIST, 0));
+        /* Entries in use whose number is right in its lower half alone. */
+        CHECK(is_update(check_correct(&pattern, text, n, place, fewer, (n - 1) % 65536, n - 1), POQEWAN_FALSE_LIST, 0));
+    }
+    free(fewer);
+    free(list);
+    free(text);
+}
+
+/* A byte for the place: any; or half of the time the one that an occurrence needs there in a window that covers it. */
+static uint8_t correction(const poqewan_pattern *pattern, size_t place)
+{
+    size_t p = random_below(pattern->len < place + 1 ? pattern->len : place + 1);
+    return random_below(2) ? (uint8_t)random_below(256) : member_of(pattern->classes, pattern->classes[pattern->bytes[p]]);
+}
+
+/* One byte after the other of a text is corrected, at its ends and within, and the list with it: it stays what a search of the
+   whole text lists, and its number moves by at most m. Gives how often the number moved. */
+static size_t check_chain(const poqewan_pattern *pattern, uint8_t *text, size_t n, size_t corrections)
+{
+    size_t m = pattern->len, moved = 0;
+    uint32_t *list = lend_list(n), *searched = lend_list(n);
+    size_t used = poqewan_colussi(*pattern, text, n, UINT64_MAX, list, n).written;
+    for (size_t i = 0; i < corrections; i++) {
+        size_t edges[] = {0, m - 1, n - m, n - 1}, place = i < 4 && edges[i] < n ? edges[i] : random_below(n);
+        text[place] = correction(pattern, place);
+        check_correct(pattern, text, n, place, list, n, used);
+        poqewan_update u = poqewan_correct(*pattern, text, n, place, list, n, used);
+        CHECK(u.refusal == 0 && u.used <= used + m && used <= u.used + m);
+        moved += u.used != used;
+        used = u.used;
+        CHECK(poqewan_colussi(*pattern, text, n, UINT64_MAX, searched, n).written == used);
+        CHECK(same_entries(list, searched, used));
+    }
+    free(searched);
+    free(list);
+    return moved;
+}
+
+/* An ascending list of positions, which may be any; a few are past the text's end, and the last may be the greatest number. Every
+   eighth one is spoilt by two entries that are equal or change places. Gives how many entries it has. */
+static size_t random_list(uint32_t *list, size_t n)
+{
+    size_t used = 0, step = 1 + random_below(8);
+    for (size_t b = random_below(step); b < n + 8; b += 1 + random_below(step))
+        list[used++] = (uint32_t)b;
+    if (random_below(4) == 0)
+        list[used++] = UINT32_MAX;
+    if (used > 1 && random_below(8) == 0) {
+        size_t at = random_below(used - 1);
+        uint32_t entry = list[at];
+        list[at] = list[at + 1];
+        list[at + 1] = random_below(2) ? entry : list[at];
+    }
+    return used;
+}
+
+/* Patterns of every length by drawn classes, in texts of their pieces: chains of corrections of a right list; and wrong lists, with
+   lengths drawn by lot, so that all refusals are met. */
+static void test_random_corrections(size_t rounds)
+{
+    size_t told[POQEWAN_SHORT_LIST + 1] = {0}, moved = 0;
+    for (size_t round = 0; round < rounds; round++) {
+        poqewan_pattern pattern = random_power(round);
+        size_t n = 1 + random_below(3 * pattern.len + 8);
+        uint8_t *text = lend_pieces(&pattern, n);
+        moved += check_chain(&pattern, text, n, 8);
+        for (int times = 0; times < 8; times++) {
+            uint32_t *list = lend_list(n + 12);
+            size_t used = random_list(list, n), list_len = used + random_below(3);
+            used += random_below(16) == 0 ? 1 + random_below(3) : 0;
+            uint32_t refusal = check_correct(&pattern, text, n, random_below(n + 2), list, list_len, used).refusal;
+            CHECK(refusal <= POQEWAN_SHORT_LIST);
+            told[refusal <= POQEWAN_SHORT_LIST ? refusal : 0]++;
+            free(list);
+        }
+        free(text);
+    }
+    CHECK(moved > 0 && told[0] > 0 && told[POQEWAN_FALSE_LIST] > 0 && told[POQEWAN_SHORT_LIST] > 0);
+}
+
+/* Every choice of the four conditions, with lists that are false in each way, and short by one entry and by all: the first
+   condition, in the order of the tests, is what is told. The windows of aa in a^n that cover place 1 are 0 and 1. */
+static void test_order_of_correction_tests(void)
+{
+    enum { IS_FALSE = 1, IS_LONG = 2, FALSE_LIST = 4, SHORT_LIST = 8 };
+    static const uint32_t refusals[] = {4, 5, 19, 20};
+    static const struct {
+        int is;
+        size_t list_len, used, used_after;
+        uint32_t entries[4];
+    } cases[] = {
+        {0, 4, 2, 4, {7, 8, 9, 9}},
+        {0, 2, 2, 2, {0, 1}},
+        {0, 3, 1, 2, {0, 9, 9}},
+        {FALSE_LIST, 4, 2, 0, {8, 8, 9, 9}},
+        {FALSE_LIST, 4, 2, 0, {8, 7, 9, 9}},
+        {FALSE_LIST, 4, 3, 0, {0, 1, 1, 9}},
+        {SHORT_LIST, 3, 2, 0, {7, 8, 9}},
+        {SHORT_LIST, 2, 2, 0, {0, 8}},
+        {SHORT_LIST, 1, 0, 0, {9}},
+        {SHORT_LIST, 0, 0, 0, {0}},
+        {FALSE_LIST | SHORT_LIST, 3, 2, 0, {8, 8, 9}},
+        {FALSE_LIST | SHORT_LIST, 3, 3, 0, {9, 8, 7}},
+        {FALSE_LIST | SHORT_LIST, 2, 3, 0, {7, 8}},
+        {FALSE_LIST | SHORT_LIST, 2, SIZE_MAX, 0, {7, 8}},
+        {FALSE_LIST | SHORT_LIST, 0, 1, 0, {0}},
+    };
+    poqewan_pattern pattern = prepared("aa"), wrong = pattern;
+    wrong.noholes++;
+    for (int is_long = 0; is_long <= IS_LONG; is_long += IS_LONG) {
+        size_t n = is_long ? POQEWAN_LONGEST_TEXT + 1 : 5;
+        uint8_t *text = lend(n);
+        memset(text, 'a', n);
+        for (int is_false = 0; is_false <= IS_FALSE; is_false++)
+            for (size_t i = 0; i < sizeof cases / sizeof *cases; i++) {
+                uint32_t refusal = first_chosen(is_false | is_long | cases[i].is, refusals);
+                size_t list_len = cases[i].list_len;
+                uint32_t *list = lend_guarded(list_len);
+                memcpy(list, cases[i].entries, list_len * sizeof *list);
+                poqewan_update u = poqewan_correct(is_false ? wrong : pattern, text, n, 1, list, list_len, cases[i].used);
+                CHECK(is_update(u, refusal, refusal == 0 ? cases[i].used_after : 0));
+                CHECK(refusal == 0 ? list[0] == 0 && list[1] == 1 : same_entries(list, cases[i].entries, list_len));
+                free_guarded(list, list_len);
+            }
+        CHECK(how_often('a', text, n) == n);
+        free(text);
+    }
+}
+
+/* In a text of the greatest length: ab at its end, and the longest pattern, of one letter, at its start, at its end and within. One
+   byte more is refused, wherever the place is, and leaves the list as it is. */
+static void test_corrections_of_longest_text(void)
+{
+    const size_t n = POQEWAN_LONGEST_TEXT, m = POQEWAN_LONGEST_PATTERN, middle = n / 2;
+    static const uint32_t entries[] = {5, 9, UINT32_MAX};
+    uint8_t *text = lend(n + 1);
+    memset(text, 'a', n + 1);
+    text[n - 1] = 'b';
+    poqewan_pattern pattern = prepared("ab");
+    uint32_t *list = lend_list(2);
+    list[0] = 5;
+    CHECK(is_update(poqewan_correct(pattern, text, n, n, list, 2, 1), 0, 1));
+    CHECK(is_update(poqewan_correct(pattern, text, n, n - 2, list, 2, 1), 0, 2));
+    CHECK(list[0] == 5 && list[1] == n - 2);
+    text[n - 1] = 'a';
+    CHECK(is_update(poqewan_correct(pattern, text, n, n - 1, list, 2, 2), 0, 1));
+    CHECK(list[0] == 5 && list[1] == n - 2);
+    free(list);
+
+    pattern = prepare(text, m, POQEWAN_SCRATCH, 0).pattern;
+    const struct {
+        size_t place, from, to; /* the windows that cover it: from the one, and below the other */
+    } rows[] = {{0, 0, 1}, {m - 1, 0, m}, {m, 1, m + 1}, {middle, middle - m + 1, middle + 1},
+                {n - m, n - 2 * m + 1, n - m + 1}, {n - m + 1, n - 2 * m + 2, n - m + 1}, {n - 1, n - m, n - m + 1}};
+    list = lend_list(m);
+    for (size_t i = 0; i < sizeof rows / sizeof *rows; i++) {
+        size_t covering = rows[i].to - rows[i].from, right = 0;
+        CHECK(is_update(poqewan_correct(pattern, text, n, rows[i].place, list, covering - 1, 0), POQEWAN_SHORT_LIST, 0));
+        CHECK(unwritten(list, 0, m));
+        CHECK(is_update(poqewan_correct(pattern, text, n, rows[i].place, list, m, 0), 0, covering));
+        while (right < covering && list[right] == rows[i].from + right)
+            list[right++] = UNWRITTEN;
+        CHECK(right == covering && unwritten(list, 0, m));
+    }
+    free(list);
+
+    list = lend_entries(entries, 3);
+    for (size_t place = n - 1; place <= n + 1; place++) {
+        CHECK(is_update(poqewan_correct(pattern, text, n + 1, place, list, 3, 3), POQEWAN_LONG_TEXT, 0));
+        CHECK(is_update(poqewan_correct(pattern, text, n + 1, place, list, 3, 0), POQEWAN_LONG_TEXT, 0));
+    }
+    CHECK(is_update(poqewan_correct(pattern, text, n + 1, SIZE_MAX, list, 3, 4), POQEWAN_LONG_TEXT, 0));
+    CHECK(same_entries(list, entries, 3));
+    free(list);
+    free(text);
 }
 
 /* The searches of one record of an archive, in the order of those above. */
@@ -3850,6 +4340,14 @@ int main(int argc, char **argv)
     test_order_of_journal_tests();
     test_journal_of_longest_text();
     test_numbers_past_32_bits();
+    test_worked_corrections();
+    test_all_corrections(quick);
+    test_corrections_of_the_longest();
+    test_correction_of_each_value();
+    test_corrections_past_16_bits();
+    test_random_corrections(quick ? 64 : 2048);
+    test_order_of_correction_tests();
+    test_corrections_of_longest_text();
     test_worked_archive();
     test_worked_records_in_archives();
     test_layouts();

@@ -6,6 +6,9 @@ use native.Mathlib.Omega.{arith}
 use Rattle.archive.specs.Promise as archive-promises
 use Rattle.archive.specs.declared.RecordAnswer.{RecordAnswer}
 use Rattle.archive.specs.declared.RecordAnswer.the-variants as records
+use Rattle.correct.specs.Promise.{IfUpdated}
+use Rattle.correct.specs.declared.CorrectAnswer.{CorrectAnswer}
+use Rattle.correct.specs.declared.CorrectAnswer.the-variants as corrections
 use Rattle.directory.specs.declared.BoundsAnswer.{BoundsAnswer}
 use Rattle.directory.specs.declared.BoundsAnswer.the-variants as bounds
 use Rattle.directory.specs.declared.DirectoryAnswer.{DirectoryAnswer}
@@ -25,10 +28,11 @@ use Rattle.rules.specs.declared.Report.{Report}
 use Rattle.search.specs.declared.SearchAnswer.{SearchAnswer}
 use Rattle.search.specs.declared.SearchAnswer.the-variants.{Ran, Refused}
 use Rattle.search.specs.Promise.{IfRan}
-use Rattle.carried.specs.Carried.{outcomeNumber, endingNumber, endingWindow, endingOf, carriedReport, carried, reportIn, carriedFirst, firstIn, carriedLengths, noSuchRecord, carriedRecord, Searched, carriedDirectory, directoryIn, carriedBounds, boundsIn}
+use Rattle.carried.specs.Carried.{outcomeNumber, endingNumber, endingWindow, endingOf, carriedReport, carried, reportIn, carriedFirst, firstIn, carriedLengths, carriedUpdate, noSuchRecord, carriedRecord, Searched, carriedDirectory, directoryIn, carriedBounds, boundsIn}
 use Rattle.carried.specs.declared.SearchReport.{SearchReport}
 use Rattle.carried.specs.declared.First.{First}
 use Rattle.carried.specs.declared.Lengths.{Lengths}
+use Rattle.carried.specs.declared.Update.{Update}
 use Rattle.carried.specs.declared.ArchiveDirectory.{ArchiveDirectory}
 use Rattle.carried.specs.declared.RecordBounds.{RecordBounds}
 
@@ -69,6 +73,14 @@ count-promised-to-c P a e holds none = rw e (of a holds (rw e at none))
     of : (a : LengthsAnswer) → IfCounted P a → carriedLengths a .refusal ≡ 0 → P (carriedLengths a .count)
     of (lengths.Counted count) holds z = holds
     of (lengths.Refused why) holds z = absurd (number-not-0 why z)
+
+-- What is promised of the number of entries in use holds of the one that C receives with refusal 0.
+pub used-promised-to-c : (P : ℕ → Type 0) (a : CorrectAnswer) {r : Update} → r ≡ carriedUpdate a → IfUpdated P a → r .refusal ≡ 0 → P (r .used)
+used-promised-to-c P a e holds none = rw e (of a holds (rw e at none))
+  where
+    of : (a : CorrectAnswer) → IfUpdated P a → carriedUpdate a .refusal ≡ 0 → P (carriedUpdate a .used)
+    of (corrections.Updated used) holds z = holds
+    of (corrections.Refused why) holds z = absurd (number-not-0 why z)
 
 -- ---- Archives
 

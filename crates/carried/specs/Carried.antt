@@ -3,6 +3,8 @@ use Prim.Native.Nat.{ℕ, zero, suc, _<_}
 use mathlib.Core.Path.{_≡_}
 use Rattle.archive.specs.declared.RecordAnswer.{RecordAnswer}
 use Rattle.archive.specs.declared.RecordAnswer.the-variants as records
+use Rattle.correct.specs.declared.CorrectAnswer.{CorrectAnswer}
+use Rattle.correct.specs.declared.CorrectAnswer.the-variants as corrections
 use Rattle.directory.specs.declared.Bounds.{Bounds}
 use Rattle.directory.specs.declared.BoundsAnswer.{BoundsAnswer}
 use Rattle.directory.specs.declared.BoundsAnswer.the-variants as bounds
@@ -28,6 +30,7 @@ use Rattle.carried.specs.declared.Preparation.{Preparation}
 use Rattle.carried.specs.declared.SearchReport.{SearchReport}
 use Rattle.carried.specs.declared.First.{First}
 use Rattle.carried.specs.declared.Lengths.{Lengths}
+use Rattle.carried.specs.declared.Update.{Update}
 use Rattle.carried.specs.declared.ArchiveDirectory.{ArchiveDirectory}
 use Rattle.carried.specs.declared.RecordBounds.{RecordBounds}
 
@@ -105,6 +108,11 @@ firstIn r = foundAt (r .found) (r .position) (r .count)
 abbrev pub carriedLengths : LengthsAnswer → Lengths
 carriedLengths (lengths.Counted count) = record { refusal = 0; count = count }
 carriedLengths (lengths.Refused why) = record { refusal = numberOf why; count = 0 }
+
+-- The answer of the correction of a list.
+abbrev pub carriedUpdate : CorrectAnswer → Update
+carriedUpdate (corrections.Updated used) = record { refusal = 0; used = used }
+carriedUpdate (corrections.Refused why) = record { refusal = numberOf why; used = 0 }
 
 -- ---- Archives
 

@@ -1,6 +1,7 @@
 // How answers cross to C: as structs of a fixed layout, refusals and endings by number. What is promised of an answer holds of what C receives,
 // since that is read back as it was (`Carrying`).
 mod archives;
+mod corrections;
 mod firsts;
 mod numbers;
 mod prefix_lengths;
@@ -9,6 +10,7 @@ mod reports;
 pub use archives::archive_directory;
 pub use archives::carry_bounds;
 pub use archives::carry_record;
+pub use corrections::carry_update;
 pub use firsts::carry_first;
 pub use numbers::outcome_number;
 use pattern::Pattern;
@@ -51,6 +53,13 @@ pub struct First {
 pub struct Lengths {
     pub refusal: u32,
     pub count: u64,
+}
+
+// The number of a refusal, and then all else is 0; or 0 and the number of a list's entries in use.
+#[repr(C)]
+pub struct Update {
+    pub refusal: u32,
+    pub used: usize,
 }
 
 // The number of a refusal, and then all else is 0; or 0, the number of an archive's records, and where its directory starts.

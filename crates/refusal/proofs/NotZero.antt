@@ -2,7 +2,7 @@
 use mathlib.Core.Path.{_≡_}
 use native.Mathlib.Omega.{arith}
 use Rattle.refusal.specs.declared.Refusal.{Refusal}
-use Rattle.refusal.specs.declared.Refusal.the-variants.{NoPattern, LongPattern, ShortScratch, FalsePattern, LongText, ShortInput, NoTrailer, FalseDirectory, RecordsApart, ZeroInPattern, ShortLengths, ClassesNot256, ZeroClassShared, FalseOrder, ShortJournal, FalseJournal}
+use Rattle.refusal.specs.declared.Refusal.the-variants.{NoPattern, LongPattern, ShortScratch, FalsePattern, LongText, ShortInput, NoTrailer, FalseDirectory, RecordsApart, ZeroInPattern, ShortLengths, ClassesNot256, ZeroClassShared, FalseOrder, ShortJournal, FalseJournal, FalseList, ShortList}
 use Rattle.refusal.specs.Numbers.{numberOf}
 
 pub number-not-0 : (why : Refusal) → numberOf why ≡ 0 → ⊥
@@ -22,3 +22,5 @@ number-not-0 ZeroClassShared e = omega arith
 number-not-0 FalseOrder e = omega arith
 number-not-0 ShortJournal e = omega arith
 number-not-0 FalseJournal e = omega arith
+number-not-0 FalseList e = omega arith
+number-not-0 ShortList e = omega arith

@@ -1,7 +1,7 @@
 -- The refusals by their numbers in document 01's table "Turned away", to which document 02 adds rows.
 use Prim.Native.Nat.{ℕ}
 use Rattle.refusal.specs.declared.Refusal.{Refusal}
-use Rattle.refusal.specs.declared.Refusal.the-variants.{NoPattern, LongPattern, ShortScratch, FalsePattern, LongText, ShortInput, NoTrailer, FalseDirectory, RecordsApart, ZeroInPattern, ShortLengths, ClassesNot256, ZeroClassShared, FalseOrder, ShortJournal, FalseJournal}
+use Rattle.refusal.specs.declared.Refusal.the-variants.{NoPattern, LongPattern, ShortScratch, FalsePattern, LongText, ShortInput, NoTrailer, FalseDirectory, RecordsApart, ZeroInPattern, ShortLengths, ClassesNot256, ZeroClassShared, FalseOrder, ShortJournal, FalseJournal, FalseList, ShortList}
 
 abbrev pub numberOf : Refusal → ℕ
 numberOf NoPattern = 1
@@ -20,3 +20,5 @@ numberOf ZeroClassShared = 15
 numberOf FalseOrder = 16
 numberOf ShortJournal = 17
 numberOf FalseJournal = 18
+numberOf FalseList = 19
+numberOf ShortList = 20

@@ -36,6 +36,10 @@ pub enum Refusal {
     ShortJournal,
     // C-21: an entry's place isn't the one the rules compare next, or entries remain after done or full
     FalseJournal,
+    // C-22: the used entries aren't strictly ascending or are more than the list holds
+    FalseList,
+    // C-22: the updated places exceed the list
+    ShortList,
 }
 
 impl Refusal {
@@ -60,6 +64,8 @@ impl Refusal {
             Refusal::FalseOrder => 16,
             Refusal::ShortJournal => 17,
             Refusal::FalseJournal => 18,
+            Refusal::FalseList => 19,
+            Refusal::ShortList => 20,
         }
     }
 }

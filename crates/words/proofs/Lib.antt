@@ -1,4 +1,5 @@
 -- The laws on the definitions of specs/, a module an idea; a module uses those above it.
+pub mod Entries
 pub mod Cases
 pub mod Numbers
 pub mod Listing

@@ -51,7 +51,7 @@ impl Lent {
 }
 
 /// What was lent must hold what the oracle says.
-fn assert_holds(lent: &Lent, expected: &Lent, name: &str, case: &dyn Fn() -> String) {
+pub fn assert_holds(lent: &Lent, expected: &Lent, name: &str, case: &dyn Fn() -> String) {
     if let Some((at, entry, other)) = lent.difference(expected) {
         panic!(
             "{}: entry {at} of the {name} is {entry}, by the request {other}",

@@ -4,6 +4,7 @@
 
 pub mod archives;
 pub mod classes;
+pub mod corrections;
 pub mod journals;
 pub mod lengths;
 pub mod orders;
@@ -12,16 +13,38 @@ pub mod worked;
 use crate::oracle::ordered::CustomOrder;
 use crate::oracle::{self, Listed, Tables, CLASSES};
 use archives::{assert_record_refused, packed};
+use corrections::assert_correction_refused;
 use journals::assert_journal_refused;
 use lengths::assert_lengths_refused;
 use orders::{assert_order_refused, left_to_right};
-use poqewan::{Ending, First, Pattern, Preparation, Refusal, Report, SCRATCH};
+use poqewan::{Ending, First, Pattern, Preparation, Refusal, Report, LONGEST_TEXT, SCRATCH};
 
 /// What lists hold before a search. No text is long enough to have such a position.
 pub const UNWRITTEN: u32 = 0xA5A5_A5A5;
 
+/// Lengths of a text, two that are accepted and two that are not, with whether it is too long.
+pub const LONG_OR_NOT: [(bool, usize); 4] = [
+    (false, 1_000),
+    (false, LONGEST_TEXT),
+    (true, LONGEST_TEXT + 1),
+    (true, LONGEST_TEXT + 2),
+];
+
+/// The first refusal whose condition is given, in the order of the tests.
+pub fn first_of<const N: usize>(conditions: [bool; N], refusals: [Refusal; N]) -> Option<Refusal> {
+    let mut applying = conditions.into_iter().zip(refusals);
+    applying.find(|&(applies, _)| applies).map(|(_, why)| why)
+}
+
+/// Each set of conditions has its number.
+pub fn number_of<const N: usize>(conditions: [bool; N]) -> usize {
+    let bits = conditions.into_iter().enumerate();
+    bits.map(|(bit, applies)| usize::from(applies) << bit).sum()
+}
+
 /// How many searches are checked for each one that is asked again of a record, and with it for the
-/// prefix lengths and in two orders more. It is odd, so both methods have their turn.
+/// prefix lengths, in two orders more and with a byte corrected. It is odd, so both methods have their
+/// turn.
 const EVERY: usize = 7;
 
 /// Of every so many searches one is made with a journal too and replayed, if it is Colussi's. The number
@@ -156,8 +179,8 @@ impl Trial {
 
     /// Runs both searches and checks all that is promised of them. Where Colussi's is run to its
     /// end, the answer for the first position is checked too. Some of the searches are asked again
-    /// of the text as a record of an archive, and then the prefix lengths and the search in two
-    /// orders more are checked as well; others of them are made with a journal and replayed.
+    /// of the text as a record of an archive, and then the prefix lengths, the search in two orders
+    /// more and a correction are checked as well; others of them are made with a journal and replayed.
     pub fn check(&mut self, text: &[u8], cap: u64, list_len: usize) -> [Report; 2] {
         let occurrences = self.occurrences(text);
         Method::BOTH.map(|method| self.check_one(method, text, cap, list_len, &occurrences))
@@ -200,6 +223,9 @@ impl Trial {
             self.check_as_record(method, text, cap, &expected);
             self.check_lengths(text);
             self.check_in_two_orders(text, cap, list_len);
+            let byte = [0, self.tables.bytes[0]][self.searches / EVERY % 2];
+            let place = self.searches % (text.len() + 1);
+            self.check_there_and_back(text, occurrences, place, byte);
         }
         let journaled = method == Method::Colussi && self.searches % EVERY_JOURNALED == 0;
         if journaled && text.len() <= SHORT {
@@ -435,6 +461,7 @@ pub fn check_value(value: &Pattern) -> bool {
             let text = repeated(&tables.bytes, 2 * value.len + 1);
             trial.check_to_the_end(&text);
             trial.check_lengths(&text);
+            trial.check_there_and_back(&text, &trial.listed(&text), value.len, 0);
             true
         }
     }
@@ -444,7 +471,7 @@ pub fn check_value(value: &Pattern) -> bool {
 /// text for an archive: the pattern is tested first, and then the length. So must the call for prefix
 /// lengths, also with a list that is too short: that is tested last. So must the search in an order
 /// of its own, for a false pattern also with an order that is none: that is tested second. So must the
-/// journaled search and the replay, whatever the journal.
+/// journaled search and the replay, whatever the journal, and the correction, whatever its list.
 pub fn assert_refused(pattern: &Pattern, text: &[u8], why: Refusal) {
     let answer = poqewan::find_first(pattern, text);
     assert_eq!(answer, Err(why), "the first position of {pattern:?}");
@@ -457,6 +484,7 @@ pub fn assert_refused(pattern: &Pattern, text: &[u8], why: Refusal) {
         assert_order_refused(pattern, &[0, 0], text, why);
     }
     assert_journal_refused(pattern, text, why);
+    assert_correction_refused(pattern, text, why);
     for method in Method::BOTH {
         let mut list = [UNWRITTEN; 8];
         let answer = method.run(pattern, text, u64::MAX, &mut list);

@@ -79,7 +79,7 @@ pub fn some_record_answers(tables: &Tables, made: &[Comparison]) -> bool {
 }
 
 /// Refusals 4 and 5: the pattern is false and so has no tables, and the record is too long.
-fn admit(tables: Option<&Tables>, n: usize) -> Result<&Tables, Refusal> {
+pub fn admit(tables: Option<&Tables>, n: usize) -> Result<&Tables, Refusal> {
     let tables = tables.ok_or(Refusal::FalsePattern)?;
     if n > LONGEST_RECORD {
         return Err(Refusal::LongText);

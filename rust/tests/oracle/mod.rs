@@ -5,6 +5,7 @@
 #![allow(dead_code)] // Each test file uses a part of it.
 
 pub mod archive;
+pub mod corrections;
 pub mod journal;
 pub mod lengths;
 pub mod ordered;
