@@ -1,4 +1,6 @@
 // The door of every search: the two tests that each of them makes first, in one place, and one that some make after them.
+#![tactic(auto)]
+
 ghost use Rattle.std.specs.Prelude.{◌≡◌, true, ◌↔◌, ◌≤◌};
 ghost use Rattle.admission.specs.Admitted.{longest_text, judged, also_judged};
 
@@ -7,7 +9,7 @@ use refusal::Refusal;
 // Document 01's longest record: 2^24 bytes.
 pub const LONGEST_TEXT: usize = 16777216;
 
-#[derive(Drop)]
+#[derive(Clone, Copy)]
 pub enum Admission {
     Admitted,
     Refused(Refusal),

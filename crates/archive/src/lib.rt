@@ -1,4 +1,6 @@
 // The searches of one record of an archive.
+#![tactic(auto)]
+
 ghost use Rattle.std.specs.Prelude.{◌≡◌, length};
 ghost use Rattle.checked.specs.Check.{is_prepared};
 ghost use Rattle.classes.specs.Classes.{identity};
@@ -18,7 +20,7 @@ use refusal::Refusal;
 pub use rules::{Ending, Report};
 use search::SearchAnswer;
 
-#[derive(Drop)]
+#[derive(Clone, Copy)]
 pub enum RecordAnswer {
     Ran(Report),
     NoSuchRecord,

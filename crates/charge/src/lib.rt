@@ -1,4 +1,6 @@
 // The charge of a search.
+#![tactic(auto)]
+
 ghost use Rattle.std.specs.Prelude.{◌≡◌, ◌+◌, ◌*◌, ◌≤◌, ◌<◌};
 ghost use Rattle.charge.specs.Charged.{charged};
 

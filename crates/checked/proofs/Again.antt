@@ -20,9 +20,9 @@ module _ (w c : List ℕ) where
   unfolding pattern_of pattern_with
   own_bytes_lem = padded_first longest_pattern w
 
-  pub prepared_again : Preparable w → Usable c → is_prepared (pattern_of w c) ≡ true
+  pub prepared_again_lem : Preparable w → Usable c → is_prepared (pattern_of w c) ≡ true
   unfolding IsPrepared prepared_again
-  prepared_again P U =
+  prepared_again_lem P U =
       let p = pattern_of w c in
       let again : prepared_again p ≡ prepared w c scratch_size =
       ap (λ (l : List ℕ). prepared l p.classes scratch_size) own_bytes_lem ∙ ap (λ (l : List ℕ). prepared w l scratch_size) (own_classes w c) in

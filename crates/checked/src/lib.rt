@@ -1,4 +1,6 @@
 // The test behind refusal 4: a pattern's own bytes are prepared again through its own classes, and all other fields are compared.
+#![tactic(auto)]
+
 mod fields;
 
 ghost use Rattle.std.specs.Prelude.{◌≡◌, true, ◌↔◌, min, take};

@@ -1,4 +1,6 @@
 // Classes of bytes, document 02's sector chart (C-19), which gives a byte value its class: two bytes count as equal when their classes are.
+#![tactic(auto)]
+
 ghost use Rattle.std.specs.Prelude.{◌≡◌, ◌<◌, length};
 ghost use Rattle.classes.specs.Classes.{identity, identity_in, letters_in};
 

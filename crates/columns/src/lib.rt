@@ -1,4 +1,6 @@
 // The report of a search that ends, from its count and one of the two columns: the other is what that leaves of the count.
+#![tactic(auto)]
+
 ghost use Rattle.std.specs.Prelude.{◌≡◌, ◌-◌};
 ghost use Rattle.columns.specs.Ended.{ended_with};
 

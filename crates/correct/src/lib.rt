@@ -1,5 +1,7 @@
 // One byte of a text is corrected: the list of a pattern's positions is brought up to date by a search of the windows that cover it. Document 02's
 // request C-22.
+#![tactic(auto)]
+
 mod bisect;
 mod moving;
 mod windows;
@@ -22,7 +24,7 @@ use rules::NO_CAP;
 use search::SearchAnswer;
 
 // The new number of entries in use.
-#[derive(Drop)]
+#[derive(Clone, Copy)]
 pub enum CorrectAnswer {
     Updated(usize),
     Refused(Refusal),

@@ -3,7 +3,7 @@ ghost use Rattle.std.specs.Prelude.{◌<◌};
 ghost use Rattle.correct.specs.Internal.{IsAround};
 
 // The part of the text that those windows make up, from start on and below end; they are the positions from start on and below past.
-#[derive(Drop)]
+#[derive(Clone, Copy)]
 pub struct Part {
     pub start: usize,
     pub end: usize,

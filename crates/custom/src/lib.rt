@@ -1,4 +1,6 @@
 // Custom orders of comparison, document 02's request C-20: which there are, and how far a search in one shifts.
+#![tactic(auto)]
+
 mod distances;
 mod entries;
 

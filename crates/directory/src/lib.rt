@@ -1,5 +1,7 @@
 // The directory of an archive: how many records there are, and where each of them lies. An archive is document 02's reel: many texts, one after
 // the other from byte 0, then the directory, then the trailer.
+#![tactic(auto)]
+
 mod read;
 
 ghost use Rattle.std.specs.Prelude.{◌≡◌, ◌↔◌};
@@ -15,26 +17,26 @@ use refusal::Refusal;
 pub const MOST_RECORDS: usize = 4096;
 
 // Where the directory starts, and how many records there are.
-#[derive(Drop)]
+#[derive(Clone, Copy)]
 pub struct Directory {
     pub start: usize,
     pub records: usize,
 }
 
-#[derive(Drop)]
+#[derive(Clone, Copy)]
 pub enum DirectoryAnswer {
     Read(Directory),
     Refused(Refusal),
 }
 
 // A record's bytes are those of the archive from start on and below end.
-#[derive(Drop)]
+#[derive(Clone, Copy)]
 pub struct Bounds {
     pub start: usize,
     pub end: usize,
 }
 
-#[derive(Drop)]
+#[derive(Clone, Copy)]
 pub enum BoundsAnswer {
     At(Bounds),
     NoSuchRecord,

@@ -1,4 +1,6 @@
 // How a search ended, as numbers: rows and C have it so.
+#![tactic(auto)]
+
 ghost use Rattle.std.specs.Prelude.{◌≡◌};
 ghost use Rattle.endings.specs.Endings.{ending_number, ending_window};
 

@@ -1,4 +1,6 @@
 // The entries of tables and journals, as numbers, and the difference of two.
+#![tactic(auto)]
+
 ghost use Rattle.std.specs.Prelude.{◌≡◌, ◌-◌, ◌<◌};
 
 pub fn wide8(x: u8) -> usize

@@ -1,4 +1,6 @@
 // Whether a pattern occurs in a text at all, and where first: the search in Colussi's order, stopped at its first occurrence.
+#![tactic(auto)]
+
 ghost use Rattle.std.specs.Prelude.{◌≡◌, length};
 ghost use Rattle.classes.specs.Classes.{identity};
 ghost use Rattle.pattern.specs.Letters.{own_bytes, word_of, text_of};
@@ -11,7 +13,7 @@ use rules::Ending;
 use search::StopAnswer;
 
 // The first position and the count; or that there is none, and the count.
-#[derive(Drop)]
+#[derive(Clone, Copy)]
 pub enum FirstAnswer {
     At(usize, u64),
     Absent(u64),

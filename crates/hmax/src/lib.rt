@@ -1,4 +1,6 @@
 // hmax of a pattern by Colussi's Algorithm 7, and what it costs: how many pairs of letters are compared.
+#![tactic(auto)]
+
 mod steps;
 
 ghost use Rattle.std.specs.Prelude.{◌≡◌, length};

@@ -51,7 +51,7 @@ fn derive(bytes: &[u8], table: &mut [u16], k: usize, i: usize) -> usize
 }
 
 // Where a turn begins, and how many so far began where the turn before had ended.
-#[derive(Drop)]
+#[derive(Clone, Copy)]
 pub struct Turn {
     pub from: usize,
     pub again: usize,
@@ -73,7 +73,7 @@ fn begin(k: usize, i: usize, again: usize) -> Turn
 }
 
 // The first k whose entry is m, and how many pairs of letters were compared to find it.
-#[derive(Drop)]
+#[derive(Clone, Copy)]
 pub struct Found {
     pub k: usize,
     pub compared: usize,

@@ -1,4 +1,6 @@
 // The program's input: its parts, and the tests that the program makes first, in one place.
+#![tactic(auto)]
+
 ghost use Rattle.std.specs.Prelude.{◌≡◌, ◌<◌};
 ghost use Rattle.input.specs.Parsed.{parsed, IfParts, Accepted};
 
@@ -8,7 +10,7 @@ use refusal::Refusal;
 pub const LONGEST_TEXT: usize = 60000;
 
 // An input that is accepted, by the length of its pattern: a length byte, so many pattern bytes, and the text to the end.
-#[derive(Drop)]
+#[derive(Clone, Copy)]
 pub enum Parsed {
     Parts(usize),
     Refused(Refusal),

@@ -1,4 +1,6 @@
 // Which bytes preparation takes: its tests, in one place below it.
+#![tactic(auto)]
+
 ghost use Rattle.std.specs.Prelude.{◌≡◌, false, ◌↔◌, ◌≤◌};
 ghost use Rattle.words.specs.Holds.{holds, Lacks};
 ghost use Rattle.intake.specs.Sizes.{scratch_size};
@@ -12,7 +14,7 @@ pub const LONGEST_PATTERN: usize = 256;
 // The least scratch, document 01's bench, in 16-bit numbers, as document 02 (C-18) has it: room for two tables of LONGEST_PATTERN + 1.
 pub const SCRATCH: usize = 514;
 
-#[derive(Drop)]
+#[derive(Clone, Copy)]
 pub enum Outcome {
     Ready,
     Refused(Refusal),

@@ -19,7 +19,7 @@ use Rattle.preparation.specs.Prepared.{prepared}
 use Rattle.preparation.specs.declared.Prepared.{Prepared}
 use Rattle.refusal.specs.declared.Refusal.{Refusal}
 use Rattle.preparation.proofs.Answers.{ready_answer}
-use Rattle.checked.proofs.Again.{own_bytes_lem, prepared_again}
+use Rattle.checked.proofs.Again.{own_bytes_lem, prepared_again_lem}
 use Rattle.checked.proofs.Checked.{own_classes, is_prepared_lem}
 use Rattle.pattern.proofs.Letters.{word_plain, text_plain}
 use Rattle.rules.specs.Rules.{End}
@@ -83,7 +83,7 @@ module _ (w t : List ℕ) (preparable : Preparable w) (fits : length t ≤ longe
 
   let_in : admitted q.pattern (length t) ≡ Admitted
   let_in = admitted_of q.pattern (length t)
-      record { prepared = (is_prepared_lem q.pattern).0 (rw pattern_is (prepared_again w identity preparable identity_usable)); fits = fits }
+      record { prepared = (is_prepared_lem q.pattern).0 (rw pattern_is (prepared_again_lem w identity preparable identity_usable)); fits = fits }
 
   -- What it answers, and what it leaves in the list.
   pub prepared_runs : {a : SearchAnswer} {after : List ℕ}

@@ -1,4 +1,6 @@
 // The program's work: from the input's bytes to the bytes to print.
+#![tactic(auto)]
+
 mod lines;
 mod text;
 
@@ -24,7 +26,7 @@ pub const LIST: usize = 8192;
 pub const BUFFER: usize = 196608;
 
 // The number of bytes written, or that the buffer is too short for the longest output.
-#[derive(Drop)]
+#[derive(Clone, Copy)]
 pub enum JobAnswer {
     Wrote(usize),
     ShortBuffer,

@@ -1,6 +1,6 @@
 -- The entries of a journal: how many, which one is a comparison's, and what an entry tells of it. Assumes nothing.
 use Prim.Native.Nat.{ℕ, ◌+◌, ◌*◌, ◌/◌, ◌%◌, ◌≤◌, ◌<◌}
-use mathlib.Core.Path.{◌≡◌, refl, sym, ap, ◌∙◌}
+use mathlib.Core.Path.{◌≡◌, refl, sym, ap, ◌∙◌, subst}
 use mathlib.Core.Bool.{Bool, true, false, cond, ◌&&◌}
 use mathlib.Core.List.{List, [], ◌∷◌, ◌++◌, append_assoc, append-nil}
 use native.Mathlib.Omega.{arith}
@@ -76,7 +76,7 @@ unfolding journal_of
 begins_answers n [] later = tt
 begins_answers n (x ∷ made) later = (
   ap (λ v. eqb (v % 2) 1) (entry_in made later x) ∙ entry_answers x,
-  rw (append_assoc (journal_of made) (entry x ∷ []) later) (begins_answers n made (entry x ∷ later)),
+  subst (λ (l : List ℕ). Answered (journal_source n l) made) (sym (append_assoc (journal_of made) (entry x ∷ []) later)) (begins_answers n made (entry x ∷ later)),
 )
 
 pub own_answers : (n : ℕ) (made : List Compared) → Answered (journal_source n (journal_of made)) made
@@ -91,7 +91,7 @@ unfolding journal_of placed
 begins_placed [] later = refl
 begins_placed (x ∷ made) later = and-true _ _
     (eq-eqb _ _ (ap (λ v. v / 2) (entry_in made later x) ∙ entry_place x))
-    (rw (append_assoc (journal_of made) (entry x ∷ []) later) (begins_placed made (entry x ∷ later)))
+    (subst (λ (l : List ℕ). placed l made ≡ true) (sym (append_assoc (journal_of made) (entry x ∷ []) later)) (begins_placed made (entry x ∷ later)))
 
 pub own_placed : (made : List Compared) → placed (journal_of made) made ≡ true
 own_placed made = rw append-nil at (begins_placed made [])

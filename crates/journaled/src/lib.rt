@@ -1,4 +1,6 @@
 // The search in Colussi's order that writes a journal of its comparisons: document 02's request C-21.
+#![tactic(auto)]
+
 mod scan;
 
 ghost use Rattle.std.specs.Prelude.{◌≡◌, ◌≤◌, length};

@@ -27,7 +27,7 @@ fn due(order: &[u8], m: usize, b: usize, i: usize, e: usize) -> bool
 }
 
 // The next window, and the rank that it starts with.
-#[derive(Drop)]
+#[derive(Clone, Copy)]
 struct Next {
     window: usize,
     rank: usize,

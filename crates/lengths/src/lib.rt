@@ -1,4 +1,6 @@
 // How much of a pattern begins at each position of a text: document 02's request C-14.
+#![tactic(auto)]
+
 mod entries;
 mod scan;
 mod steps;
@@ -22,7 +24,7 @@ use pattern::{LONGEST_PATTERN, Pattern, RANKS};
 use refusal::Refusal;
 
 // The comparisons of a pattern byte with a text byte.
-#[derive(Drop)]
+#[derive(Clone, Copy)]
 pub enum LengthsAnswer {
     Counted(u64),
     Refused(Refusal),

@@ -20,7 +20,7 @@ fn windows_inside(m: usize, n: usize) -> usize
 }
 
 // A window, how much of the pattern is matched in it, and how many letters of the text were compared again.
-#[derive(Drop)]
+#[derive(Clone, Copy)]
 pub struct Reached {
     pub window: usize,
     pub matched: usize,

@@ -37,7 +37,7 @@ fn pass<'a>(x: u8, classes: &'a [u8], text: &'a [u8], lengths: &mut [u16], from:
 }
 
 // A window, and how much of the pattern is matched in it.
-#[derive(Drop)]
+#[derive(Clone, Copy)]
 pub struct Spot {
     pub window: usize,
     pub matched: usize,

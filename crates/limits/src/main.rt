@@ -1,5 +1,7 @@
 // The program's work at its limits: each input is answered, and the answer's first four lines are printed. What they must be is read off
 // documents 01 and 02.
+#![tactic(auto)]
+
 ghost use Rattle.std.specs.Prelude.{◌≤◌, length};
 
 use job::{BUFFER, JobAnswer, LIST, LONGEST_TEXT};

@@ -1,4 +1,6 @@
 // Lists of positions that ascend: the test of the entries in use. What is a law of such lists stands in proofs/.
+#![tactic(auto)]
+
 ghost use Rattle.std.specs.Prelude.{◌≡◌, true, ◌↔◌, ◌≤◌, length, take};
 ghost use Rattle.lists.specs.Lists.{in_order, Ascending};
 

@@ -1,9 +1,11 @@
 // The program motif: reads standard input, does the job, and writes what it gives. Nothing that matters is here.
+#![tactic(auto)]
+
 use job::{BUFFER, JobAnswer, LONGEST_TEXT};
 use libc::{STDERR_FILENO, STDIN_FILENO, STDOUT_FILENO};
 
 // What one read gave: some bytes, none because the input has ended, or nothing because it failed.
-#[derive(Drop)]
+#[derive(Clone, Copy)]
 enum Piece {
     More(usize),
     End,
@@ -23,7 +25,7 @@ fn read_some(fd: i32, part: &mut [u8]) -> Piece {
 }
 
 // How much of a buffer was filled.
-#[derive(Drop)]
+#[derive(Clone, Copy)]
 enum Input {
     Read(usize),
     Failed,

@@ -1,4 +1,6 @@
 // 256 marks as bits of four words, and how many of them lie below a place: by counting ones.
+#![tactic(auto)]
+
 ghost use Rattle.std.specs.Prelude.{◌≡◌, ◌≤◌, ◌<◌};
 ghost use Rattle.words.specs.Numbers.{count};
 ghost use Rattle.ones.specs.Marks.{marked, whole_words, low_ones, ones_below};

@@ -1,4 +1,6 @@
 // The search in a custom order of comparison: document 02's request C-20.
+#![tactic(auto)]
+
 mod entries;
 mod scan;
 

@@ -1,9 +1,11 @@
 // A packed batch of patterns: for each a length byte and its bytes. Document 02's request C-17.
+#![tactic(auto)]
+
 ghost use Rattle.std.specs.Prelude.{◌≡◌, ◌↔◌};
 ghost use Rattle.packed.specs.Packed.{counted, NotPacked, IfCounted, PackedFrom};
 
 // How many patterns, or that a length byte promises more bytes than remain.
-#[derive(Drop)]
+#[derive(Clone, Copy)]
 pub enum Counted {
     Patterns(usize),
     Cut,

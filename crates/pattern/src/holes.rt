@@ -23,7 +23,7 @@ fn below_from(marks: &[u64; WORDS], whole: &[u16; WORDS + 1], first: usize, p: u
 }
 
 // What a place leaves with if it is a hole: its shift, and its next rank.
-#[derive(Drop)]
+#[derive(Clone, Copy)]
 pub struct Leaving {
     pub shift: usize,
     pub next: usize,

@@ -1,4 +1,6 @@
 // A pattern and its tables, which document 01 calls a card; and how it is built.
+#![tactic(auto)]
+
 mod entries;
 mod holes;
 mod kmin;
@@ -16,7 +18,7 @@ pub use sizes::RANKS;
 
 // Document 01's card: the pattern, its classes and its tables. The entries past those defined are 0.
 #[repr(C)]
-#[derive(Drop)]
+#[derive(Clone, Copy)]
 pub struct Pattern {
     // m, from 1 to 256
     pub len: usize,
@@ -36,7 +38,7 @@ pub struct Pattern {
 }
 
 // A pattern, and how many pairs of its letters were compared to build hmax. With the pattern first it is copied and checked fastest.
-#[derive(Drop)]
+#[derive(Clone, Copy)]
 pub struct Built {
     pub pattern: Pattern,
     pub compared: usize,

@@ -38,7 +38,7 @@ fn within(p: usize, a: usize, e: usize) -> usize
 }
 
 // The marks of a word, and how many noholes there are so far, and how many of their ranks are listed for later.
-#[derive(Drop)]
+#[derive(Clone, Copy)]
 pub struct ListedWord {
     pub marks: u64,
     pub noholes: usize,
@@ -90,7 +90,7 @@ pub fn list_word(
 }
 
 // The nohole marks, how many noholes there are, and how many of their ranks are listed for later.
-#[derive(Drop)]
+#[derive(Clone, Copy)]
 pub struct Listed {
     pub marks: [u64; WORDS],
     pub noholes: usize,

@@ -1,5 +1,7 @@
 // What C and Rust may call: the proved functions over numbers, slices and structs of a fixed layout. No function has a precondition, so
 // nothing is asked of a caller but what C asks of pointers.
+#![tactic(auto)]
+
 ghost use Rattle.std.specs.Prelude.{◌≡◌, ◌↔◌, List, ℕ, ◌+◌, ◌*◌, ◌≤◌, ◌<◌, length};
 ghost use Rattle.carried.specs.Carried.{carried_preparation, carried, report_in, carried_first, first_in, carried_lengths};
 ghost use Rattle.charge.specs.Charged.{charged};

@@ -1,5 +1,7 @@
 // What C and Rust may call of archives. As in `poqewan`, no function has a precondition. It is a library of its own: compiled apart, the searches
 // stand in one function for C in each library, and those of `poqewan` are compiled as they were.
+#![tactic(auto)]
+
 ghost use Rattle.std.specs.Prelude.{◌≡◌, length};
 ghost use Rattle.archive.specs.Answer.{answer_by, list_by, plain_answer_by, plain_list_by};
 ghost use Rattle.carried.specs.Carried.{report_in, carried_record, Searched, carried_directory, directory_in, carried_bounds, bounds_in};

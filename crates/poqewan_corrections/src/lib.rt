@@ -1,5 +1,7 @@
 // What C and Rust may call to correct a list. As in `poqewan`, the function has no precondition. It is a library of its own: compiled apart, the
 // search stands in one function for C in each library, and those of `poqewan` are compiled as they were.
+#![tactic(auto)]
+
 ghost use Rattle.std.specs.Prelude.{◌≡◌, length, take, drop};
 ghost use Rattle.carried.specs.Carried.{carried_update};
 ghost use Rattle.classes.specs.Classes.{identity};

@@ -1,4 +1,6 @@
 // Preparation: a pattern is tested, built, and its cost told; and the scratch is left clear.
+#![tactic(auto)]
+
 ghost use Rattle.std.specs.Prelude.{◌≡◌, ◌↔◌, ◌≤◌, length};
 ghost use Rattle.classes.specs.Classes.{identity};
 ghost use Rattle.intake.specs.Sizes.{scratch_size};
@@ -12,7 +14,7 @@ pub use pattern::Pattern;
 pub use refusal::Refusal;
 
 // The answer of preparation. Beside a refusal the number is 0 and the pattern all zero.
-#[derive(Drop)]
+#[derive(Clone, Copy)]
 pub struct Prepared {
     pub outcome: Outcome,
     // how many pairs of the pattern's letters were compared to build hmax

@@ -1,9 +1,11 @@
 // The refusals of document 01, "Turned away", and those that document 02 adds: a variant for each row of the table, with the trade's word for
 // it.
+#![tactic(auto)]
+
 ghost use Rattle.std.specs.Prelude.{◌≡◌};
 ghost use Rattle.refusal.specs.Numbers.{number_of};
 
-#[derive(Drop)]
+#[derive(Clone, Copy)]
 pub enum Refusal {
     // no motif
     NoPattern,

@@ -23,7 +23,7 @@ fn due(order: &[u8], m: usize, b: usize, i: usize, e: usize) -> bool
 }
 
 // The next window, and the rank that it starts with.
-#[derive(Drop)]
+#[derive(Clone, Copy)]
 struct Next {
     window: usize,
     rank: usize,
@@ -65,7 +65,7 @@ fn all_read(journal: &[u32], c: usize) -> bool
 }
 
 // Whether the journal is accepted; and the report, if it is.
-#[derive(Drop)]
+#[derive(Clone, Copy)]
 pub struct Pass {
     pub accepts: bool,
     pub report: Report,

@@ -1,4 +1,6 @@
 // The replay of a journal, without the text: document 02's request C-21.
+#![tactic(auto)]
+
 mod follow;
 
 ghost use Rattle.std.specs.Prelude.{◌≡◌, length};

@@ -1,5 +1,7 @@
 // The row of a search: four numbers of a lent list. And calls made one after the other, each with what the one before left. Document 02's
 // requests C-17 and C-24.
+#![tactic(auto)]
+
 ghost use Rattle.std.specs.Prelude.{◌≡◌};
 ghost use Rattle.rows.specs.Row.{ran_row, refused_row, row_of, numbers, starting_with};
 
@@ -14,7 +16,7 @@ pub const ROW: usize = 4;
 pub const REFUSED: u64 = 10;
 
 // 0 for done, 1 for spent, 2 for full, or 10 and the number of the refusal; the positions written; the count; the window, or 0.
-#[derive(Drop)]
+#[derive(Clone, Copy)]
 pub struct Row {
     pub ending: u64,
     pub written: usize,

@@ -14,7 +14,7 @@ use columns::with_holes;
 use rules::{Ending, Report};
 
 // The next window, the rank that it starts with and the known edge. And the holes that were compared in the window before.
-#[derive(Drop)]
+#[derive(Clone, Copy)]
 pub struct Next {
     pub window: usize,
     pub rank: usize,

@@ -54,7 +54,7 @@ fn least(a: u64, b: u64) -> u64
 }
 
 // A window, the rank reached in it and what is left of the cap.
-#[derive(Drop)]
+#[derive(Clone, Copy)]
 pub struct Spot {
     pub window: usize,
     pub rank: usize,

@@ -1,5 +1,7 @@
 // Asks how many marks lie below each place, and below some past the last, and checks each answer against a count bit by bit. The expected
 // output is that of an oracle of separate make, tests/tallies_oracle.
+#![tactic(auto)]
+
 mod sets;
 
 use libc::STDOUT_FILENO;
@@ -30,7 +32,7 @@ fn say(words: &[u8], n: u64) {
     io::print_decimal(STDOUT_FILENO, n);
 }
 
-#[derive(Drop)]
+#[derive(Clone, Copy)]
 struct Tally {
     answers: u64,
     checksum: u64,

@@ -1,5 +1,7 @@
 // Runs both searches on random patterns and texts, and checks each report and list against a naive search. Both must list the naive
 // search's positions, and so the same. The expected output is that of an oracle of separate make, tests/trials_oracle.
+#![tactic(auto)]
+
 mod draw;
 mod judge;
 
@@ -25,7 +27,7 @@ fn say(words: &[u8], n: u64) {
 }
 
 // Searches that are right.
-#[derive(Drop)]
+#[derive(Clone, Copy)]
 struct Tally {
     searches: u64,
     places: u64,
@@ -74,7 +76,7 @@ fn search_by(
 }
 
 // An answer in numbers alone, which cost less to prove than its enums: the window of a spent cap, or DONE or NEITHER.
-#[derive(Drop)]
+#[derive(Clone, Copy)]
 struct Run {
     end: u64,
     count: u64,

@@ -6,10 +6,10 @@ use Rattle.admission.proofs.Admitting.{false_pattern, long_text, lets_in, answer
 use Rattle.admission.proofs.admit.Statement.{statement}
 use Rattle.admission.proofs.admit.Tie as tie
 
-pub admit-spec : {M : Type 1} → statement M
-admit-spec =
+pub admit_spec : {M : Type 1} → statement M
+admit_spec =
     tie.close
     (tie.spec
-    (λ c. answers _ _ (sym (false_pattern _ (not-true _ c.if1.true))))
-    (λ c. answers _ _ (sym (long_text _ (not-false _ c.before.if1.false) c.if2.true)))
-    (λ c. answers _ _ (sym (lets_in _ (not-false _ c.before.if1.false) c.if2.false))))
+    (λ c. answers _ _ (sym (false_pattern _ (c.if-not-prepared.true))))
+    (λ c. answers _ _ (sym (long_text _ (c.before.if-not-prepared.false) c.if-n-gt-LONGEST_TEXT.true)))
+    (λ c. answers _ _ (sym (lets_in _ (c.before.if-not-prepared.false) c.if-n-gt-LONGEST_TEXT.false))))

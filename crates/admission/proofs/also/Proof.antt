@@ -5,12 +5,12 @@ use Rattle.admission.proofs.Admitting.{refused_before, refused_then, lets_in_the
 use Rattle.admission.proofs.also.Statement.{statement}
 use Rattle.admission.proofs.also.Tie as tie
 
-pub also-spec : {M : Type 1} → statement M
-also-spec =
+pub also_spec : {M : Type 1} → statement M
+also_spec =
     tie.close
     (tie.spec
     (λ c. search rules)
     (λ c. search rules)
-    (λ c. sym (lets_in_then _ _ c.before.enum_told.given.1 c.if1.true))
-    (λ c. sym (refused_then _ _ c.before.enum_told.given.1 c.if1.false))
-    (λ c. sym (refused_before _ _ c.before.door.given.1)))
+    (λ c. sym (lets_in_then _ _ c.before.in-Admitted.is c.if-passes.true))
+    (λ c. sym (refused_then _ _ c.before.in-Admitted.is c.if-passes.false))
+    (λ c. sym (refused_before _ _ c.in-Refused.is)))

@@ -5,16 +5,19 @@ use Rattle.charge.specs.Charged.{charged}
 use Rattle.charge.proofs.charge.Statement.{statement}
 use Rattle.charge.proofs.charge.Tie as tie
 
-returns : tie.Need-returns
+returns : tie.Need-returns-then-count-eq0
 unfolding charged
 returns c = omega arith
 
-add-result : tie.Need-overflow-add-result
+add-result : tie.Need-overflow_add-result
 add-result c = search rules
 
-returns-2 : tie.Need-returns-2
+returns-2 : tie.Need-returns
 unfolding charged
-returns-2 c = omega (arith, c.if1.false)
+returns-2 c = omega (arith, c.if-count-eq0.false)
 
-pub charge-spec : {M : Type 1} → statement M
-charge-spec = tie.close (tie.spec returns add-result returns-2)
+pub charge_spec : {M : Type 1} → statement M
+charge_spec = tie.close (tie.spec
+    returns
+    add-result
+    returns-2)

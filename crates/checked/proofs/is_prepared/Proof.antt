@@ -5,19 +5,19 @@ use Rattle.checked.proofs.Checked.{tables_tell, tested}
 use Rattle.checked.proofs.is_prepared.Statement.{statement}
 use Rattle.checked.proofs.is_prepared.Tie as tie
 
-returns : tie.Need-returns
+returns : tie.Need-returns-in-Ready
 returns c =
     let told = c.before in
-    let again = told.before.before.before in
-    tested _ again.prepared_again.ensures (c.same_tables.ensures ∙ tables_tell _ again.prepared_again.ensures told.enum_told.given.1)
+    let again = told.before.before in
+    tested _ again.prepared_again-again.ensures (c.same_tables.ensures ∙ tables_tell _ again.prepared_again-again.ensures told.in-Ready.is)
 
-returns-2 : tie.Need-returns-2
+returns-2 : tie.Need-returns-in-Refused
 returns-2 c =
-    let again = c.before.before.before.before in
-    tested _ again.prepared_again.ensures (rw c.before.outcome.given.1 refl)
+    let again = c.before.before in
+    tested _ again.prepared_again-again.ensures (rw c.in-Refused.is refl)
 
-pub is-prepared-spec : {M : Type 1} → statement M
-is-prepared-spec =
+pub is_prepared_spec : {M : Type 1} → statement M
+is_prepared_spec =
     tie.close
     (tie.spec
     (λ c κs. search rules)

@@ -7,14 +7,14 @@ use Rattle.pattern.proofs.Lists.{take_least}
 use Rattle.checked.proofs.prepared_again.Statement.{statement}
 use Rattle.checked.proofs.prepared_again.Tie as tie
 
-slice-aggregate-prepare-alone : tie.Need-slice-aggregate-prepare-alone
+slice-aggregate-prepare-alone : tie.Need-slice_bounds-prepare_alone-end
 slice-aggregate-prepare-alone c = sym (length-take-le _ _ (omega arith))
 
 returns : tie.Need-returns
-returns c = let args = c.before.before.before.before.before.args in cc (take_least args.len args.bytes.now)
+returns c = let args = c.before.before.before.before.args in cc (take_least args.len args.bytes.now)
 
-pub prepared-again-spec : {M : Type 1} → statement M
-prepared-again-spec =
+pub prepared_again_spec : {M : Type 1} → statement M
+prepared_again_spec =
     tie.close
     (tie.spec
     (λ c κs. search rules)

@@ -6,7 +6,10 @@ use Rattle.classes.proofs.identity_classes.Tie as tie
 
 returns : tie.Need-returns
 unfolding identity
-returns c = c.before.fill-identity.ensures
+returns c = c.before.fill_identity.ensures
 
-pub identity-classes-spec : {M : Type 1} → statement M
-identity-classes-spec = tie.close (tie.spec (λ c. search rules) (λ c κs. search rules) returns)
+pub identity_classes_spec : {M : Type 1} → statement M
+identity_classes_spec = tie.close (tie.spec
+    (λ c. search rules)
+    (λ c κs. search rules)
+    returns)

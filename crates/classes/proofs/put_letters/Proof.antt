@@ -10,43 +10,43 @@ use Rattle.classes.proofs.Letters.{no_room, not_256, PutTo, none_put, put_length
 use Rattle.classes.proofs.put_letters.Statement.{statement}
 use Rattle.classes.proofs.put_letters.Tie as tie
 
-abbrev invariant-loop : tie.invariant-loop
-invariant-loop bytes classes letters₀ i₀ letters i = (i ≤ length bytes) × PutTo bytes classes letters₀ i letters
+abbrev invariant-loop-i : tie.invariant-loop-i
+invariant-loop-i bytes classes letters₀ i₀ letters i = (i ≤ length bytes) × PutTo bytes classes letters₀ i letters
 
-abbrev decreases-loop : tie.decreases-loop
-decreases-loop bytes classes letters₀ i₀ letters i = length bytes - i
+abbrev decreases-loop-i : tie.decreases-loop-i
+decreases-loop-i bytes classes letters₀ i₀ letters i = length bytes - i
 
 -- The list is as long as it was.
-kept : (c : tie.At-loop invariant-loop decreases-loop)
-    → (let begin = c.before.before.before.before.before.before in length c.loop.letters ≡ length begin.args.letters.now)
-kept c = put_length _ _ _ c.loop.i c.loop.invariant.1 c.before.before.if1.false c.loop.invariant.0
+kept : (c : tie.At-loop-i invariant-loop-i decreases-loop-i)
+    → (let begin = c.before.before.before.before.before.before in length c.loop-i.letters ≡ length begin.args.letters.now)
+kept c = put_length _ _ _ c.loop-i.i c.loop-i.invariant.1 c.before.before.if-letters-bytes.false c.loop-i.invariant.0
 
-loop-again : tie.Need-loop-preserved invariant-loop decreases-loop
+loop-again : tie.Need-loop-i-preserved invariant-loop-i decreases-loop-i
 loop-again c =
     let wide = c.before.wide.ensures in
     let at-loop = c.before.before.before.before in
     let begin = at-loop.before.before.before.before.before.before in
-    let read = class_read begin.args.classes.now (omega (arith, at-loop.before.if2.false, wide.1)) wide.0 in
-    (omega arith, one_put _ _ _ at-loop.loop.i at-loop.loop.invariant.1 at-loop.before.before.if1.false (omega arith) read)
+    let read = class_read begin.args.classes.now (omega (arith, at-loop.before.if-classes-ne-CLASSES.false, wide.1)) wide.0 in
+    (omega arith, one_put _ _ _ at-loop.loop-i.i at-loop.loop-i.invariant.1 at-loop.before.before.if-letters-bytes.false (omega arith) read)
 
-returns-3 : tie.Need-returns-3 invariant-loop decreases-loop
+returns-3 : tie.Need-returns invariant-loop-i decreases-loop-i
 returns-3 c =
     let at-loop = c.before in
-    all_put _ _ _ at-loop.loop.i at-loop.loop.invariant.1 at-loop.before.before.if1.false at-loop.before.if2.false (omega arith)
+    all_put _ _ _ at-loop.loop-i.i at-loop.loop-i.invariant.1 at-loop.before.before.if-letters-bytes.false at-loop.before.if-classes-ne-CLASSES.false (omega arith)
 
-pub put-letters-spec : {M : Type 1} → statement M
-put-letters-spec =
+pub put_letters_spec : {M : Type 1} → statement M
+put_letters_spec =
     tie.close
     (tie.spec
-    invariant-loop
-    decreases-loop
-    (λ c. no_room _ _ _ c.if1.true)
-    (λ c. not_256 _ _ _ c.before.if1.false c.if2.true)
+    invariant-loop-i
+    decreases-loop-i
+    (λ c. no_room _ _ _ c.if-letters-bytes.true)
+    (λ c. not_256 _ _ _ c.before.if-letters-bytes.false c.if-classes-ne-CLASSES.true)
     (λ c. let args = c.before.before.before.before.before.args in (omega arith, none_put args.bytes.now args.classes.now args.letters.now))
     (λ c. search rules)
     (λ c κs. search rules)
     (λ c. search rules)
-    (λ c. omega (arith, kept c.before.before.before.before, c.before.before.before.before.before.before.if1.false))
+    (λ c. omega (arith, kept c.before.before.before.before, c.before.before.before.before.before.before.if-letters-bytes.false))
     (λ c. search rules)
     (λ c. search rules)
     loop-again

@@ -4,5 +4,7 @@ use borrow.Author.Rules.{rules}
 use Rattle.columns.proofs.with_holes.Statement.{statement}
 use Rattle.columns.proofs.with_holes.Tie as tie
 
-pub with-holes-spec : {M : Type 1} → statement M
-with-holes-spec = tie.close (tie.spec (λ c κs. search rules) (λ c. rw c.rest.ensures refl))
+pub with_holes_spec : {M : Type 1} → statement M
+with_holes_spec = tie.close (tie.spec
+    (λ c κs. search rules)
+    (λ c. rw c.rest-noholes.ensures refl))

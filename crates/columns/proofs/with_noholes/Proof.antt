@@ -4,5 +4,7 @@ use borrow.Author.Rules.{rules}
 use Rattle.columns.proofs.with_noholes.Statement.{statement}
 use Rattle.columns.proofs.with_noholes.Tie as tie
 
-pub with-noholes-spec : {M : Type 1} → statement M
-with-noholes-spec = tie.close (tie.spec (λ c κs. search rules) (λ c. rw c.rest.ensures refl))
+pub with_noholes_spec : {M : Type 1} → statement M
+with_noholes_spec = tie.close (tie.spec
+    (λ c κs. search rules)
+    (λ c. rw c.rest-holes.ensures refl))

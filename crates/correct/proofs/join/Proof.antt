@@ -8,44 +8,44 @@ use Rattle.correct.proofs.Joining.{high_used, kept_fits, too_short, put_fits, jo
 use Rattle.correct.proofs.join.Statement.{statement}
 use Rattle.correct.proofs.join.Tie as tie
 
-abbrev entry : tie.After-below2 → tie.Start
-entry c = c.before.before.before.before.before.before
+abbrev entry : tie.After-below-high → tie.Start
+entry c = c.before.before.before.before
 
 -- What is kept was in use.
-fits : (c : tie.After-below2) → (let used = (entry c).args.used in c.before.before.below.result + (used - c.below2.result) ≤ used)
+fits : (c : tie.After-below-high) → (let used = (entry c).args.used in c.below-low.result + (used - c.below-high.result) ≤ used)
 fits c =
     let E = entry c in
-    kept_fits E.args.positions.now (moved E.args.start E.args.found.now) _ _ _ _ _ _ (length-map E.args.found.now _) E.pre.0.0 E.pre.0.2
-    c.before.before.below.ensures c.below2.ensures
+    kept_fits E.args.positions.now (moved E.args.start E.args.found.now) _ _ _ _ _ _ (length-map E.args.found.now _) E.requires.0.0 E.requires.0.2
+    c.below-low.ensures c.below-high.ensures
 
-inside : (c : tie.After-below2) → c.below2.result ≤ (entry c).args.used
+inside : (c : tie.After-below-high) → c.below-high.result ≤ (entry c).args.used
 inside c =
     let E = entry c in
-    high_used E.args.positions.now (moved E.args.start E.args.found.now) _ _ _ _ _ _ (length-map E.args.found.now _) E.pre.0.0 E.pre.0.2
-    c.before.before.below.ensures c.below2.ensures
+    high_used E.args.positions.now (moved E.args.start E.args.found.now) _ _ _ _ _ _ (length-map E.args.found.now _) E.requires.0.0 E.requires.0.2
+    c.below-low.ensures c.below-high.ensures
 
 -- There is room for all.
-all_fit : (c : tie.Else1)
+all_fit : (c : tie.Else-positions-kept)
     → (let E = entry c.before in
-    let low = c.before.before.before.below.result in
-    low + length E.args.found.now + (E.args.used - c.before.below2.result) ≤ length E.args.positions.now)
+    let low = c.below-low.result in
+    low + length E.args.found.now + (E.args.used - c.before.below-high.result) ≤ length E.args.positions.now)
 all_fit c =
     let at_past = c.before in
     let E = entry at_past in
-    omega (arith, fits at_past, c.if1.false, E.pre.0.0)
+    omega (arith, fits at_past, c.if-positions-kept.false, E.requires.0.0)
 
-returns : tie.Need-returns
+returns : tie.Need-returns-then-positions-kept
 returns c =
     let at_past = c.before in
     let E = entry at_past in
-    too_short E.args.positions.now _ _ _ _ _ _ _ (length-map E.args.found.now _) E.pre.0.0 E.pre.0.2 at_past.before.before.below.ensures
-    at_past.below2.ensures c.if1.true
+    too_short E.args.positions.now _ _ _ _ _ _ _ (length-map E.args.found.now _) E.requires.0.0 E.requires.0.2 at_past.below-low.ensures
+    at_past.below-high.ensures c.if-positions-kept.true
 
 slide-requires : tie.Need-slide-requires
 slide-requires c κs =
     let at_past = c.before.before in
     let E = entry at_past in
-    omega (arith, all_fit c.before, inside at_past, E.pre.0.0)
+    omega (arith, all_fit c.before, inside at_past, E.requires.0.0)
 
 put-requires : tie.Need-put-requires
 put-requires c κs =
@@ -53,23 +53,23 @@ put-requires c κs =
     let room = at-slide.before.before in
     let at_past = room.before in
     let E = entry at_past in (
-      put_fits E.args.positions.now (moved E.args.start E.args.found.now) _ _ _ _ _ _ (length-map E.args.found.now _) E.pre.0.0 E.pre.0.2
-          at_past.before.before.below.ensures at_past.below2.ensures room.if1.false at-slide.slide.ensures,
-      E.pre.1,
+      put_fits E.args.positions.now (moved E.args.start E.args.found.now) _ _ _ _ _ _ (length-map E.args.found.now _) E.requires.0.0 E.requires.0.2
+          at_past.below-low.ensures at_past.below-high.ensures room.if-positions-kept.false at-slide.slide.ensures,
+      E.requires.1,
     )
 
-returns-2 : tie.Need-returns-2
+returns-2 : tie.Need-returns
 returns-2 c =
     let at-put = c.before.before in
     let at-slide = at-put.before.before.before.before in
     let room = at-slide.before.before in
     let at_past = room.before in
     let E = entry at_past in
-    joins E.args.positions.now _ _ _ _ _ _ _ (length-map E.args.found.now _) E.pre.0.0 E.pre.0.2
-    at_past.before.before.below.ensures at_past.below2.ensures room.if1.false at-slide.slide.ensures at-put.put.ensures
+    joins E.args.positions.now _ _ _ _ _ _ _ (length-map E.args.found.now _) E.requires.0.0 E.requires.0.2
+    at_past.below-low.ensures at_past.below-high.ensures room.if-positions-kept.false at-slide.slide.ensures at-put.put.ensures
 
-pub join-spec : {M : Type 1} → statement M
-join-spec =
+pub join_spec : {M : Type 1} → statement M
+join_spec =
     tie.close
     (tie.spec
     (λ c κs. search rules)

@@ -10,14 +10,14 @@ use Rattle.correct.proofs.unsearched.Statement.{statement}
 use Rattle.correct.proofs.unsearched.Tie as tie
 
 -- What the door says.
-door : (c : tie.After-also) → (let args = c.before.before.before.args in also_judged (admitted args.pattern args.n) args.in_order FalseList ≡ c.also.result)
+door : (c : tie.After-also-door) → (let args = c.before.before.before.args in also_judged (admitted args.pattern args.n) args.in_order FalseList ≡ c.also-door.result)
 door c =
     let args = c.before.before.before.args in
     ap (λ (a : Admission). also_judged a args.in_order FalseList)
-    (at_the_door args.pattern args.n c.before.admit.ensures.0 c.before.before.is_prepared_lem.ensures.0) ∙ sym c.also.ensures
+    (at_the_door args.pattern args.n c.before.admit.ensures.0 c.before.before.is_prepared.ensures.0) ∙ sym c.also-door.ensures
 
-pub unsearched-spec : {M : Type 1} → statement M
-unsearched-spec =
+pub unsearched_spec : {M : Type 1} → statement M
+unsearched_spec =
     tie.close
     (tie.spec
     (λ c κs. search rules)
@@ -25,5 +25,5 @@ unsearched-spec =
     (λ c κs. search rules)
     (λ c. search rules)
     (λ c. search rules)
-    (λ c. sym (answered_in _ (door c.before.before ∙ c.enum_told.given.1)))
-    (λ c. sym (answered_not _ (door c.before.before.before ∙ c.before.door.given.1))))
+    (λ c. sym (answered_in _ (door c.before ∙ c.in-Admitted.is)))
+    (λ c. sym (answered_not _ (door c.before ∙ c.in-Refused.is))))

@@ -12,68 +12,68 @@ use Rattle.directory.proofs.Reading.{from_9, long, short, unclosed, many, elsewh
 use Rattle.directory.proofs.read_directory.Statement.{statement}
 use Rattle.directory.proofs.read_directory.Tie as tie
 
-returns-3 : tie.Need-returns-3
-returns-3 c = answers _ (sym (unclosed _ (omega arith) (omega arith) (sym c.before.closes.ensures ∙ not-true _ c.if3.true)))
+returns-3 : tie.Need-returns-then-not-closes
+returns-3 c = answers _ (sym (unclosed _ (omega arith) (omega arith) (sym c.before.closes.ensures ∙ c.if-not-closes.true)))
 
 -- The third test passed.
-closed : (c : tie.Else3) → closes c.before.before.before.before.before.args.archive.now ≡ true
-closed c = sym c.before.closes.ensures ∙ not-false _ c.if3.false
+closed : (c : tie.Else-not-closes) → closes c.before.before.before.before.before.args.archive.now ≡ true
+closed c = sym c.before.closes.ensures ∙ c.if-not-closes.false
 
-returns-4 : tie.Need-returns-4
+returns-4 : tie.Need-returns-then-records-gt-MOST_RECORDS
 unfolding record_count
 returns-4 c =
     let third = c.before.before.before in
-    answers _ (sym (many _ (omega arith) (omega arith) (closed third) (omega (arith, c.if4.true, c.before.number-at2.ensures.0))))
+    answers _ (sym (many _ (omega arith) (omega arith) (closed third) (omega (arith, c.if-records-gt-MOST_RECORDS.true, c.before.number_at-records.ensures.0))))
 
-returns-5 : tie.Need-returns-5
+returns-5 : tie.Need-returns-then-start-records
 unfolding directory_start record_count
 returns-5 c =
     let fourth = c.before in
     let third = fourth.before.before.before in
-    let start = fourth.before.before.number_at.ensures.0 in
-    let records = fourth.before.number-at2.ensures.0 in
+    let start = fourth.before.before.number_at-start.ensures.0 in
+    let records = fourth.before.number_at-records.ensures.0 in
     answers _
-    (sym (elsewhere _ (omega arith) (omega arith) (closed third) (omega (arith, fourth.if4.false, records))
-    (λ x. omega (arith, c.if5.true, x, start, records))))
+    (sym (elsewhere _ (omega arith) (omega arith) (closed third) (omega (arith, fourth.if-records-gt-MOST_RECORDS.false, records))
+    (λ x. omega (arith, c.if-start-records.true, x, start, records))))
 
 -- The fifth test passed: what the code goes on with is what the trailer tells, and the last test is left.
-module _ (c : tie.Else5) where
-  abbrev fourth : tie.Else4
+module _ (c : tie.Else-start-records) where
+  abbrev fourth : tie.Else-records-gt-MOST_RECORDS
   fourth = c.before
 
   abbrev archive : List ℕ
   archive = fourth.before.before.before.before.before.before.before.before.args.archive.now
 
-  start : fourth.before.before.number_at.result ≡ directory_start archive
+  start : fourth.before.before.number_at-start.result ≡ directory_start archive
   unfolding directory_start
-  start = fourth.before.before.number_at.ensures.0
+  start = fourth.before.before.number_at-start.ensures.0
 
-  records : fourth.before.number-at2.result ≡ record_count archive
+  records : fourth.before.number_at-records.result ≡ record_count archive
   unfolding record_count
-  records = fourth.before.number-at2.ensures.0
+  records = fourth.before.number_at-records.ensures.0
 
   past : directory_of archive ≡ from_9 archive
   past =
-      past_8 archive (omega arith) (omega arith) (closed fourth.before.before.before) (omega (arith, fourth.if4.left, records))
-      (omega (arith, c.if5.false, start, records))
+      past_8 archive (omega arith) (omega arith) (closed fourth.before.before.before) (omega (arith, fourth.if-records-gt-MOST_RECORDS.false, records))
+      (omega (arith, c.if-start-records.false, start, records))
 
-  told : touch archive fourth.before.before.number_at.result fourth.before.number-at2.result
+  told : touch archive fourth.before.before.number_at-start.result fourth.before.number_at-records.result
       ≡ touch archive (directory_start archive) (record_count archive)
-  told = ap (λ s. touch archive s fourth.before.number-at2.result) start ∙ ap (touch archive (directory_start archive)) records
+  told = ap (λ s. touch archive s fourth.before.number_at-records.result) start ∙ ap (touch archive (directory_start archive)) records
 
-returns-6 : tie.Need-returns-6
+returns-6 : tie.Need-returns-then-touch
 returns-6 c =
     let fifth = c.before.before in
-    let read = whole _ (past fifth) (sym (told fifth) ∙ sym c.before.touch.ensures ∙ c.if6.true) in
+    let read = whole _ (past fifth) (sym (told fifth) ∙ sym c.before.touch.ensures ∙ c.if-touch.true) in
     answers _ ((λ i. Read record { start = start fifth i; records = records fifth i }) ∙ sym read)
 
-returns-7 : tie.Need-returns-7
+returns-7 : tie.Need-returns-else-touch
 returns-7 c =
     let fifth = c.before.before in
-    answers _ (sym (apart _ (past fifth) (sym (told fifth) ∙ sym c.before.touch.ensures ∙ c.if6.false)))
+    answers _ (sym (apart _ (past fifth) (sym (told fifth) ∙ sym c.before.touch.ensures ∙ c.if-touch.false)))
 
-pub read-directory-spec : {M : Type 1} → statement M
-read-directory-spec =
+pub read_directory_spec : {M : Type 1} → statement M
+read_directory_spec =
     tie.close
     (tie.spec
     (λ c. answers _ (sym (long _ (omega arith))))

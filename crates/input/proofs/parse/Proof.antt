@@ -5,42 +5,42 @@ use Rattle.input.proofs.Parsing.{no_input, no_pattern, short_input, zero_in_patt
 use Rattle.input.proofs.parse.Statement.{statement}
 use Rattle.input.proofs.parse.Tie as tie
 
-returns-2 : tie.Need-returns-2
-returns-2 c = no_pattern _ _ c.before.wide.ensures.0 c.if2.true
+returns-2 : tie.Need-returns-then-len-eq0
+returns-2 c = no_pattern _ _ c.before.wide-len.ensures.0 c.if-len-eq0.true
 
-returns-3 : tie.Need-returns-3
+returns-3 : tie.Need-returns-then-input-end
 returns-3 c =
     let at_some = c.before in
-    short_input _ _ at_some.before.wide.ensures.0 at_some.if2.false c.if3.true
+    short_input _ _ at_some.before.wide-len.ensures.0 at_some.if-len-eq0.false c.if-input-end.true
 
-returns-4 : tie.Need-returns-4
+returns-4 : tie.Need-returns-then-holds
 returns-4 c =
     let at-whole = c.before.before.before in
     let at_some = at-whole.before in
-    zero_in_pattern _ _ at_some.before.wide.ensures.0 at_some.if2.false at-whole.if3.false
-    (sym c.before.holds.ensures.0 ∙ c.if4.true)
+    zero_in_pattern _ _ at_some.before.wide-len.ensures.0 at_some.if-len-eq0.false at-whole.if-input-end.false
+    (sym c.before.holds.ensures.0 ∙ c.if-holds.true)
 
-returns-5 : tie.Need-returns-5
+returns-5 : tie.Need-returns-then-input-end-gt-LONGEST_TEXT
 returns-5 c =
     let at-clean = c.before in
     let at-whole = at-clean.before.before.before in
     let at_some = at-whole.before in
-    long_text _ _ at_some.before.wide.ensures.0 at_some.if2.false at-whole.if3.false
-    (sym at-clean.before.holds.ensures.0 ∙ at-clean.if4.false) c.if5.true
+    long_text _ _ at_some.before.wide-len.ensures.0 at_some.if-len-eq0.false at-whole.if-input-end.false
+    (sym at-clean.before.holds.ensures.0 ∙ at-clean.if-holds.false) c.if-input-end-gt-LONGEST_TEXT.true
 
-returns-6 : tie.Need-returns-6
+returns-6 : tie.Need-returns
 returns-6 c =
     let at-clean = c.before in
     let at-whole = at-clean.before.before.before in
     let at_some = at-whole.before in
-    accepted _ _ at_some.before.wide.ensures.0 at_some.if2.false at-whole.if3.false
-    (sym at-clean.before.holds.ensures.0 ∙ at-clean.if4.false) at_some.before.wide.ensures.1 c.if5.false
+    accepted _ _ at_some.before.wide-len.ensures.0 at_some.if-len-eq0.false at-whole.if-input-end.false
+    (sym at-clean.before.holds.ensures.0 ∙ at-clean.if-holds.false) at_some.before.wide-len.ensures.1 c.if-input-end-gt-LONGEST_TEXT.false
 
-pub parse-spec : {M : Type 1} → statement M
-parse-spec =
+pub parse_spec : {M : Type 1} → statement M
+parse_spec =
     tie.close
     (tie.spec
-    (λ c. no_input _ c.if1.true)
+    (λ c. no_input _ c.if-input-eq0.true)
     (λ c. search rules)
     (λ c κs. search rules)
     returns-2

@@ -8,21 +8,21 @@ use Rattle.words.proofs.Holding.{Looked, none_looked, one_looked, all_looked}
 use Rattle.intake.proofs.holds.Statement.{statement}
 use Rattle.intake.proofs.holds.Tie as tie
 
-abbrev invariant-loop : tie.invariant-loop
-invariant-loop z bytes found₀ i₀ found i = (i ≤ length bytes) × Looked z bytes i found
+abbrev invariant-loop-i : tie.invariant-loop-i
+invariant-loop-i z bytes found₀ i₀ found i = (i ≤ length bytes) × Looked z bytes i found
 
-abbrev decreases-loop : tie.decreases-loop
-decreases-loop z bytes found₀ i₀ found i = length bytes - i
+abbrev decreases-loop-i : tie.decreases-loop-i
+decreases-loop-i z bytes found₀ i₀ found i = length bytes - i
 
-pub holds-spec : {M : Type 1} → statement M
-holds-spec =
+pub holds_spec : {M : Type 1} → statement M
+holds_spec =
     tie.close
     (tie.spec
-    invariant-loop
-    decreases-loop
+    invariant-loop-i
+    decreases-loop-i
     (λ c. (omega arith, none_looked _ _))
     (λ c. search rules)
     (λ c. search rules)
     (λ c. search rules)
-    (λ c. (omega arith, one_looked c.before.before.loop.invariant.1 (omega arith)))
-    (λ c. all_looked c.before.loop.invariant.1 (omega arith)))
+    (λ c. (omega arith, one_looked c.before.before.loop-i.invariant.1 (omega arith)))
+    (λ c. all_looked c.before.loop-i.invariant.1 (omega arith)))

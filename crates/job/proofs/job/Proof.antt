@@ -7,46 +7,46 @@ use Rattle.job.proofs.job.Statement.{statement}
 use Rattle.job.proofs.job.Tie as tie
 
 -- The input is accepted.
-accepted-here : (c : tie.After-parsed) → Accepted c.before.before.before.before.before.before.args.input.now c.parsed.given.0.0
-accepted-here c = accepted _ c.before.before.parse.ensures _ c.parsed.given.1
+accepted-here : (c : tie.In-Parts) → Accepted c.before.before.before.before.before.args.input.now c.in-Parts.len
+accepted-here c = accepted _ c.before.parse-parsed.ensures _ c.in-Parts.is
 
-add-end : tie.Need-overflow-add-end
-add-end c = omega (arith, accepted-here c.before)
+add-end : tie.Need-overflow_add-end
+add-end c = omega (arith, accepted-here c)
 
-part-searched-end : tie.Need-slice-bounds-searched-end
-part-searched-end c = omega (arith, accepted-here c.before)
+part-searched-end : tie.Need-slice_bounds-searched-end
+part-searched-end c = omega (arith, accepted-here c)
 
-sub-searched-2 : tie.Need-overflow-sub-searched-2
-sub-searched-2 c = omega (arith, accepted-here c.before.before)
+sub-searched-2 : tie.Need-slice_bounds-searched-count-in-Parts
+sub-searched-2 c = omega (arith, accepted-here c.before)
 
-part-searched-start-2 : tie.Need-slice-bounds-searched-start-2
-part-searched-start-2 c = omega (arith, accepted-here c.before.before)
+part-searched-start-2 : tie.Need-slice_bounds-searched-start-in-Parts
+part-searched-start-2 c = omega (arith, accepted-here c.before)
 
 searched-requires : tie.Need-searched-requires
 searched-requires c κs =
-    let at-parsed = c.before.before.before.before in
-    let parts = may_search _ at-parsed.before.before.parse.ensures _ at-parsed.parsed.given.1 in
+    let at-parsed = c.before.before.before in
+    let parts = may_search _ at-parsed.before.parse-parsed.ensures _ at-parsed.in-Parts.is in
     (parts.0, parts.1, omega arith)
 
-returns-2 : tie.Need-returns-2
+returns-2 : tie.Need-returns-in-Parts
 returns-2 c =
     let at-put = c.before.before in
-    let at-parsed = at-put.before.before.before.before.before in
-    let at-parse = at-parsed.before.before in
-    wrote _ _ at-parse.before.if1.false (searches _ at-parse.parse.ensures _ at-parsed.parsed.given.1) at-put.searched.ensures
+    let at-parsed = at-put.before.before.before.before in
+    let at-parse = at-parsed.before in
+    wrote _ _ at-parse.before.if-out-lt-BUFFER.false (searches _ at-parse.parse-parsed.ensures _ at-parsed.in-Parts.is) at-put.searched.ensures
 
-returns-3 : tie.Need-returns-3
+returns-3 : tie.Need-returns-in-Refused
 returns-3 c =
     let at-put = c.before.before in
-    let at-parsed = at-put.before.before.before in
-    let at-parse = at-parsed.before.before in
-    wrote _ _ at-parse.before.if1.false (refuses _ at-parse.parse.ensures at-parsed.parsed2.given.1) at-put.Put-refused.ensures
+    let at-parsed = at-put.before.before in
+    let at-parse = at-parsed.before in
+    wrote _ _ at-parse.before.if-out-lt-BUFFER.false (refuses _ at-parse.parse-parsed.ensures at-parsed.in-Refused.is) at-put.put_refused.ensures
 
-pub job-spec : {M : Type 1} → statement M
-job-spec =
+pub job_spec : {M : Type 1} → statement M
+job_spec =
     tie.close
     (tie.spec
-    (λ c. short_buffer _ _ c.if1.true)
+    (λ c. short_buffer _ _ c.if-out-lt-BUFFER.true)
     (λ c κs. search rules)
     (λ c. search rules)
     add-end

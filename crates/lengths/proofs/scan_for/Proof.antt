@@ -13,30 +13,30 @@ use Rattle.lengths.proofs.Lent.{lent_tables}
 use Rattle.lengths.proofs.scan_for.Statement.{statement}
 use Rattle.lengths.proofs.scan_for.Tie as tie
 
-abbrev entry : tie.After-put-letters → tie.Start
-entry c = c.before.before.before.before.before.before.before
+abbrev entry : tie.After-put_letters → tie.Start
+entry c = c.before.before.before.before.before.before
 
 -- The letters, as they were put: as many as there is room for, with those of the bytes first.
-read : (c : tie.After-put-letters) →
+read : (c : tie.After-put_letters) →
     let args = (entry c).args in
-    let letters = c.put-letters.new.1.1.0 in
+    let letters = c.put_letters.new.letters in
     (length letters ≡ longest_pattern) × (take args.m letters ≡ through args.classes.now (take args.m args.bytes.now))
 read c =
     let start = entry c in
-    first_letters start.args.bytes.now start.args.classes.now _ start.args.m start.pre.0.2 start.pre.0.1 start.pre.0.3
-    c.put-letters.ensures
+    first_letters start.args.bytes.now start.args.classes.now _ start.args.m start.requires.0.2 start.requires.0.1 start.requires.0.3
+    c.put_letters.ensures
 
-size : (c : tie.After-put-letters) → (entry c).args.m ≤ length c.put-letters.new.1.1.0
+size : (c : tie.After-put_letters) → (entry c).args.m ≤ length c.put_letters.new.letters
 size c = omega (arith, (read c).0, (entry c).requires.0.1)
 
-abbrev put : tie.After-fill-hmax → tie.After-put-letters
+abbrev put : tie.After-fill_hmax → tie.After-put_letters
 put c = c.before.before.before.before
 
-tables : (c : tie.After-fill-hmax) → Tables (take (entry (put c)).args.m (put c).put-letters.new.1.1.0) c.fill-hmax.new.1.0
+tables : (c : tie.After-fill_hmax) → Tables (take (entry (put c)).args.m (put c).put_letters.new.letters) c.fill_hmax.new.table
 tables c =
     let start = entry (put c) in
-    lent_tables (put c).put-letters.new.1.1.0 _ start.args.m start.pre.0.0 start.pre.0.1 (size (put c)) (omega (arith, start.pre.0.1))
-    c.fill-hmax.ensures.0
+    lent_tables (put c).put_letters.new.letters _ start.args.m start.requires.0.0 start.requires.0.1 (size (put c)) (omega (arith, start.requires.0.1))
+    c.fill_hmax.ensures.0
 
 scan-requires : tie.Need-scan-requires
 scan-requires c κs =
@@ -50,11 +50,11 @@ returns c =
     let put = put scanned.before.before.before.before.before in
     rw (read put).1 at scanned.scan.ensures
 
-pub scan-for-spec : {M : Type 1} → statement M
-scan-for-spec =
+pub scan_for_spec : {M : Type 1} → statement M
+scan_for_spec =
     tie.close
     (tie.spec
-    (λ c. sym (length-take-le _ _ c.before.before.before.before.before.requires.0.2))
+    (λ c. sym (length-take-le _ _ c.before.before.before.before.requires.0.2))
     (λ c. search rules)
     (λ c κs. search rules)
     (λ c. search rules)

@@ -7,34 +7,34 @@ use Rattle.lists.proofs.Ascending.{too_many, answers, Tested, test_start, test_o
 use Rattle.lists.proofs.in_order.Statement.{statement}
 use Rattle.lists.proofs.in_order.Tie as tie
 
-abbrev invariant-loop : tie.invariant-loop
-invariant-loop list used rises₀ i₀ rises i = Tested list used i rises
+abbrev invariant-loop-i : tie.invariant-loop-i
+invariant-loop-i list used rises₀ i₀ rises i = Tested list used i rises
 
-abbrev decreases-loop : tie.decreases-loop
-decreases-loop list used rises₀ i₀ rises i = used - i
+abbrev decreases-loop-i : tie.decreases-loop-i
+decreases-loop-i list used rises₀ i₀ rises i = used - i
 
-returns : tie.Need-returns invariant-loop decreases-loop
-returns c = let args = c.before.args in answers _ _ (sym (too_many args.list.now args.used c.if1.true))
+returns : tie.Need-returns-then-list-used invariant-loop-i decreases-loop-i
+returns c = let args = c.before.args in answers _ _ (sym (too_many args.list.now args.used c.if-list-used.true))
 
-loop-again : tie.Need-loop-preserved invariant-loop decreases-loop
+loop-again : tie.Need-loop-i-preserved invariant-loop-i decreases-loop-i
 loop-again c =
     let at-loop = c.before.before.before in
-    test_on _ _ _ _ at-loop.loop.invariant c.before.before.loop-test.true
+    test_on _ _ _ _ at-loop.loop-i.invariant c.before.before.loop-i-test.true
 
-returns-2 : tie.Need-returns-2 invariant-loop decreases-loop
+returns-2 : tie.Need-returns invariant-loop-i decreases-loop-i
 returns-2 c =
     let at-loop = c.before in
-    answers _ _ (test_end _ _ _ _ at-loop.loop.invariant at-loop.before.if1.false c.loop-test.false)
+    answers _ _ (test_end _ _ _ _ at-loop.loop-i.invariant at-loop.before.if-list-used.false c.loop-i-test.false)
 
-pub in-order-spec : {M : Type 1} → statement M
-in-order-spec =
+pub in_order_spec : {M : Type 1} → statement M
+in_order_spec =
     tie.close
     (tie.spec
-    invariant-loop
-    decreases-loop
+    invariant-loop-i
+    decreases-loop-i
     returns
     (λ c. test_start _ _)
-    (λ c. omega (arith, c.before.loop.invariant.some))
+    (λ c. omega (arith, c.before.loop-i.invariant.some))
     (λ c. search rules)
     (λ c. search rules)
     (λ c. search rules)

@@ -21,12 +21,12 @@ module _ (marks : List ℕ) (p : ℕ) where
   unfolding marked
   bit l = ap (λ x. eqb x 1) (and_mask (get_or marks (p / 64) 0 / 2 ^ (p % 64)) 1) ∙ rw (lt-ltb p 256 l) refl
 
-pub is-marked-spec : {M : Type 1} → statement M
-is-marked-spec =
+pub is_marked_spec : {M : Type 1} → statement M
+is_marked_spec =
     tie.close
     (tie.spec
-    (λ c. past _ _ c.if1.true)
+    (λ c. past _ _ c.if-place-ge-PLACES.true)
     (λ c. search rules)
     (λ c. search rules)
     (λ c. search rules)
-    (λ c. bit _ _ c.before.if1.false))
+    (λ c. bit _ _ c.before.if-place-ge-PLACES.false))

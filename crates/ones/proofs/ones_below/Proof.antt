@@ -5,19 +5,19 @@ use Rattle.ones.proofs.Counting.{answered, inside, past}
 use Rattle.ones.proofs.ones_below.Statement.{statement}
 use Rattle.ones.proofs.ones_below.Tie as tie
 
-returns : tie.Need-returns
+returns : tie.Need-returns-then-p-ge-PLACES
 returns c =
     let args = c.before.before.before.args in
     answered args.marks.now args.whole.now args.p _ (past args.marks.now args.whole.now args.p _ (omega arith) c.wide.ensures.0)
 
-returns-2 : tie.Need-returns-2
+returns-2 : tie.Need-returns
 returns-2 c =
     let args = c.before.before.before.before.before.args in
     answered args.marks.now args.whole.now args.p _
-    (inside args.marks.now args.whole.now args.p _ _ (omega arith) c.before.before.wide2.ensures.0 c.remainder.ensures.0)
+    (inside args.marks.now args.whole.now args.p _ _ (omega arith) c.before.before.wide-2.ensures.0 c.remainder.ensures.0)
 
-pub ones-below-spec : {M : Type 1} → statement M
-ones-below-spec =
+pub ones_below_spec : {M : Type 1} → statement M
+ones_below_spec =
     tie.close
     (tie.spec
     (λ c. search rules)

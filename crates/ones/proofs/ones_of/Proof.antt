@@ -7,12 +7,14 @@ use Rattle.ones.specs.Marks.{low_ones}
 use Rattle.ones.proofs.ones_of.Statement.{statement}
 use Rattle.ones.proofs.ones_of.Tie as tie
 
-cast-result : tie.Need-overflow-cast-result
+cast-result : tie.Need-overflow_cast-result
 cast-result c = omega (arith, ones-le 64 c.args.word c.ranges.word.fits)
 
 returns : tie.Need-returns
 unfolding low_ones
 returns c = (ap ones (sym (mod-eq_of_lt c.ranges.word.fits)), ones-le 64 c.args.word c.ranges.word.fits)
 
-pub ones-of-spec : {M : Type 1} → statement M
-ones-of-spec = tie.close (tie.spec cast-result returns)
+pub ones_of_spec : {M : Type 1} → statement M
+ones_of_spec = tie.close (tie.spec
+    cast-result
+    returns)

@@ -15,7 +15,7 @@ use Rattle.ones.proofs.remainder.Tie as tie
 shifted : (p : ℕ) → p < 64 → (1 * 2 ^ p) % 2 ^ 64 ≡ 2 ^ p
 shifted p l = shl_exact {a = 1} 1 p 64 (omega arith) (omega arith) ∙ omega arith
 
-sub-ones-of : tie.Need-overflow-sub-ones-of
+sub-ones-of : tie.Need-overflow_sub-place
 sub-ones-of c = omega (arith, shifted c.args.place (omega arith), pow_pos c.args.place)
 
 returns : tie.Need-returns
@@ -25,7 +25,11 @@ returns c =
     let p = c.before.args.place in
     let masked : bit_and word ((1 * 2 ^ p) % 2 ^ 64 - 1) ≡ word % 2 ^ p = ap (λ x. bit_and word (x - 1)) (shifted p (omega arith)) ∙ and_mask word p in
     let below : word % 2 ^ p < 2 ^ 64 = omega (arith, mod-lt word (pow_pos p), pow-lt {i = p} {j = 64} (omega arith)) in
-    (c.ones-of.ensures.0 ∙ ap (λ x. ones (x % 2 ^ 64)) masked ∙ ap ones (mod-eq_of_lt below), c.ones-of.ensures.1)
+    (c.ones_of.ensures.0 ∙ ap (λ x. ones (x % 2 ^ 64)) masked ∙ ap ones (mod-eq_of_lt below), c.ones_of.ensures.1)
 
-pub remainder-spec : {M : Type 1} → statement M
-remainder-spec = tie.close (tie.spec (λ c. search rules) sub-ones-of (λ c κs. search rules) returns)
+pub remainder_spec : {M : Type 1} → statement M
+remainder_spec = tie.close (tie.spec
+    (λ c. search rules)
+    sub-ones-of
+    (λ c κs. search rules)
+    returns)

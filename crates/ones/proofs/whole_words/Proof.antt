@@ -9,11 +9,11 @@ returns c =
     let third = c.before.before in
     let second = third.before.before in
     let first = second.before.before in
-    summed first.before.before.args.marks.now first.ones-of.ensures.0 second.ones-of2.ensures.0 third.ones-of3.ensures.0
-    c.ones-of4.ensures.0
+    summed first.before.before.args.marks.now first.ones_of-a.ensures.0 second.ones_of.ensures.0 third.ones_of-2.ensures.0
+    c.ones_of-3.ensures.0
 
-pub whole-words-spec : {M : Type 1} → statement M
-whole-words-spec =
+pub whole_words_spec : {M : Type 1} → statement M
+whole_words_spec =
     tie.close
     (tie.spec
     (λ c. search rules)

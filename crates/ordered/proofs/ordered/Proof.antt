@@ -14,41 +14,41 @@ use Rattle.ordered.proofs.Promises.{refused, scanned, promises}
 use Rattle.ordered.proofs.ordered.Statement.{statement}
 use Rattle.ordered.proofs.ordered.Tie as tie
 
-abbrev entry : tie.After-door → tie.Start
+abbrev entry : tie.After-door-door → tie.Start
 entry c = c.before.before.before.before.before
 
 -- What the door answered.
-answered : (c : tie.After-door)
-    → (let args = (entry c).args in admitted_in args.order.now args.t1 (length args.text.now) ≡ c.door.result)
-answered c = at_the_door _ _ _ c.door.ensures c.before.is_prepared_lem.ensures.0
+answered : (c : tie.After-door-door)
+    → (let args = (entry c).args in admitted_in args.order.now args.pattern (length args.text.now) ≡ c.door-door.result)
+answered c = at_the_door _ _ _ c.door-door.ensures c.before.is_prepared.ensures.0
 
-let_in : (c : tie.After-enum-told)
-    → (let args = (entry c.before.before).args in admitted_in args.order.now args.t1 (length args.text.now) ≡ Admitted)
-let_in c = answered c.before.before ∙ c.enum_told.given.1
+let_in : (c : tie.In-Admitted)
+    → (let args = (entry c.before).args in admitted_in args.order.now args.pattern (length args.text.now) ≡ Admitted)
+let_in c = answered c.before ∙ c.in-Admitted.is
 
-scan-for-requires : tie.Need-scan-for-requires
+scan-for-requires : tie.Need-scan_for-report-requires
 scan-for-requires c κs =
-    let told = c.before.before.before.before.before.before.before in
-    let I = admitted_is _ _ _ (let_in told) in
+    let told = c.before.before.before.before.before.before in
+    let I = admitted_is _ _ _ (let_in c.before.before.before.before.before.before) in
     let F = fields_of _ I.0.prepared in
     ((F.some, F.short, omega (arith, F.short, F.length_bytes), F.usable.size), ((I.1, I.0.fits), λ q l. F.marked_at q l ∙ ap (λ w. nohole w q) (word_through _)))
 
-returns : tie.Need-returns
+returns : tie.Need-returns-in-Admitted
 returns c =
     let ran = c.before.before in
-    let told = ran.before.before.before.before.before.before.before.before in
-    let args = (entry told.before.before).args in
-    promises _ args.t1 _ args.cap _ (scanned _ args.t1 _ args.cap _ (let_in told) ran.scan-for.ensures)
+    let told = ran.before.before.before.before.before.before.before in
+    let args = (entry told.before).args in
+    promises _ args.pattern _ args.cap _ (scanned _ args.pattern _ args.cap _ (let_in ran.before.before.before.before.before.before.before) ran.scan_for-report.ensures)
 
-returns-2 : tie.Need-returns-2
+returns-2 : tie.Need-returns-in-Refused
 returns-2 c =
-    let at-door = c.before in
-    let asked = at-door.before.before in
+    let at-door = c in
+    let asked = at-door.before in
     let args = (entry asked).args in
-    promises _ args.t1 _ args.cap _ (refused _ args.t1 _ args.cap _ (answered asked ∙ at-door.door2.given.1))
+    promises _ args.pattern _ args.cap _ (refused _ args.pattern _ args.cap _ (answered asked ∙ at-door.in-Refused.is))
 
-pub ordered-spec : {M : Type 1} → statement M
-ordered-spec =
+pub ordered_spec : {M : Type 1} → statement M
+ordered_spec =
     tie.close
     (tie.spec
     (λ c κs. search rules)

@@ -12,47 +12,47 @@ use Rattle.packed.proofs.Packing.{counted_cut, counted_all, ensured}
 use Rattle.packed.proofs.count.Statement.{statement}
 use Rattle.packed.proofs.count.Tie as tie
 
-abbrev invariant-loop : tie.invariant-loop
-invariant-loop packed at₀ number₀ at number =
+abbrev invariant-loop-at : tie.invariant-loop-at
+invariant-loop-at packed at₀ number₀ at number =
     (at ≤ length packed) × (number ≤ at) × (whole packed ≡ whole (drop at packed))
     × (length (patterns packed) ≡ number + length (patterns (drop at packed)))
 
-abbrev decreases-loop : tie.decreases-loop
-decreases-loop packed at₀ number₀ at number = length packed - at
+abbrev decreases-loop-at : tie.decreases-loop-at
+decreases-loop-at packed at₀ number₀ at number = length packed - at
 
-returns : tie.Need-returns invariant-loop decreases-loop
+returns : tie.Need-returns-then-packed-at invariant-loop-at decreases-loop-at
 returns c =
     let at-loop = c.before.before.before.before in
-    let len = c.before.wide8 in
-    ensured _ (sym (counted_cut _ (at-loop.loop.invariant.2 ∙ cut_at _ at-loop.loop.at (search rules) len.ensures.0 (omega arith))))
+    let len = c.before.wide8-len in
+    ensured _ (sym (counted_cut _ (at-loop.loop-at.invariant.2 ∙ cut_at _ at-loop.loop-at.at (search rules) len.ensures.0 (omega arith))))
 
-loop-again : tie.Need-loop-preserved invariant-loop decreases-loop
+loop-again : tie.Need-loop-at-preserved invariant-loop-at decreases-loop-at
 loop-again c =
     let at-loop = c.before.before.before.before in
     let packed = at-loop.before.before.args.packed.now in
-    let len = c.before.wide8 in
-    let split = patterns_at packed at-loop.loop.at (search rules) len.ensures.0 in (
+    let len = c.before.wide8-len in
+    let split = patterns_at packed at-loop.loop-at.at (search rules) len.ensures.0 in (
       omega arith,
       omega arith,
-      at-loop.loop.invariant.2 ∙ whole_at packed at-loop.loop.at (search rules) len.ensures.0 (omega arith),
-      omega (arith, at-loop.loop.invariant.3, ap length split),
+      at-loop.loop-at.invariant.2 ∙ whole_at packed at-loop.loop-at.at (search rules) len.ensures.0 (omega arith),
+      omega (arith, at-loop.loop-at.invariant.3, ap length split),
     )
 
-returns-2 : tie.Need-returns-2 invariant-loop decreases-loop
+returns-2 : tie.Need-returns invariant-loop-at decreases-loop-at
 returns-2 c =
     let at-loop = c.before in
     let packed = at-loop.before.before.args.packed.now in
-    let all : length (patterns packed) ≡ at-loop.loop.number =
-    omega (arith, at-loop.loop.invariant.3, ap length (patterns_end packed at-loop.loop.at c.loop-test.false)) in
+    let all : length (patterns packed) ≡ at-loop.loop-at.number =
+    omega (arith, at-loop.loop-at.invariant.3, ap length (patterns_end packed at-loop.loop-at.at c.loop-at-test.false)) in
     ensured packed
-    (sym (counted_all packed (at-loop.loop.invariant.2 ∙ whole_end packed at-loop.loop.at c.loop-test.false) ∙ ap Patterns all))
+    (sym (counted_all packed (at-loop.loop-at.invariant.2 ∙ whole_end packed at-loop.loop-at.at c.loop-at-test.false) ∙ ap Patterns all))
 
 pub count_spec : {M : Type 1} → statement M
 count_spec =
     tie.close
     (tie.spec
-    invariant-loop
-    decreases-loop
+    invariant-loop-at
+    decreases-loop-at
     (λ c. search rules)
     (λ c. search rules)
     (λ c κs. search rules)

@@ -9,5 +9,7 @@ returns : tie.Need-returns
 unfolding unbuilt
 returns c = rw c.zero_pattern.ensures refl
 
-pub not-built-spec : {M : Type 1} → statement M
-not-built-spec = tie.close (tie.spec (λ c κs. search rules) returns)
+pub not_built_spec : {M : Type 1} → statement M
+not_built_spec = tie.close (tie.spec
+    (λ c κs. search rules)
+    returns)

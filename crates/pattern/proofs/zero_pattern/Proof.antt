@@ -8,5 +8,6 @@ returns : tie.Need-returns
 unfolding zero_pattern
 returns c = refl
 
-pub zero-pattern-spec : {M : Type 1} → statement M
-zero-pattern-spec = tie.close (tie.spec returns)
+pub zero_pattern_spec : {M : Type 1} → statement M
+zero_pattern_spec = tie.close (tie.spec
+    returns)

@@ -7,36 +7,36 @@ use Rattle.preparation.proofs.Answers.{room, success, refusal, zeroed, kept, ens
 use Rattle.preparation.proofs.prepare.Statement.{statement}
 use Rattle.preparation.proofs.prepare.Tie as tie
 
-slice-relend-prefix-fill : tie.Need-slice-relend-prefix-fill
+slice-relend-prefix-fill : tie.Need-slice_bounds-fill-end
 slice-relend-prefix-fill c =
     let told = c.before.before.before.before in
-    omega (arith, room _ _ _ told.before.before.outcome-of.ensures.0 told.enum_told.given.1)
+    omega (arith, room _ _ _ told.before.outcome_of-outcome.ensures.0 told.in-Ready.is)
 
-slice-aggregate-fill : tie.Need-slice-aggregate-fill
+slice-aggregate-fill : tie.Need-slice_bounds-fill-end-in-Ready
 slice-aggregate-fill c =
     let told = c.before.before.before.before.before in
-    simp length-take (omega (arith, room _ _ _ told.before.before.outcome-of.ensures.0 told.enum_told.given.1))
+    simp length-take (omega (arith, room _ _ _ told.before.outcome_of-outcome.ensures.0 told.in-Ready.is))
 
-returns : tie.Need-returns
+returns : tie.Need-returns-in-Ready
 returns c =
     let filled = c.before.before.before in
     let built = filled.before.before.before.before in
     let told = built.before.before in
-    let tested = told.before.before.outcome-of.ensures.0 in
-    let ready = told.enum_told.given.1 in
-    let build = built.build in
-    let after = zeroed _ _ _ tested build.new.1.1.0 ready build.ensures.1 filled.fill.ensures in
+    let tested = told.before.outcome_of-outcome.ensures.0 in
+    let ready = told.in-Ready.is in
+    let build = built.build-built in
+    let after = zeroed _ _ _ tested build.new.scratch ready build.ensures.1 filled.fill.ensures in
     ensured _ _ _ (success _ _ _ tested ready build.ensures.0) after
 
-returns-2 : tie.Need-returns-2
+returns-2 : tie.Need-returns-in-Refused
 returns-2 c =
-    let outcome = c.before.before in
-    let tested = outcome.before.before.outcome-of.ensures.0 in
-    let told = outcome.outcome.given.1 in
+    let outcome = c.before in
+    let tested = outcome.before.outcome_of-outcome.ensures.0 in
+    let told = outcome.in-Refused.is in
     ensured _ _ _ (refusal _ _ _ tested told c.refused.ensures) (kept _ _ _ tested told)
 
-pub prepare-spec : {M : Type 1} → statement M
-prepare-spec =
+pub prepare_spec : {M : Type 1} → statement M
+prepare_spec =
     tie.close
     (tie.spec
     (λ c κs. search rules)

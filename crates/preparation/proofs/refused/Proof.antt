@@ -9,5 +9,7 @@ returns : tie.Need-returns
 unfolding unprepared
 returns c = rw c.zero_pattern.ensures refl
 
-pub refused-spec : {M : Type 1} → statement M
-refused-spec = tie.close (tie.spec (λ c κs. search rules) returns)
+pub refused_spec : {M : Type 1} → statement M
+refused_spec = tie.close (tie.spec
+    (λ c κs. search rules)
+    returns)

@@ -16,67 +16,67 @@ use Rattle.replay.proofs.Promises.{refused, false_journal, ran, promises}
 use Rattle.replay.proofs.replay.Statement.{statement}
 use Rattle.replay.proofs.replay.Tie as tie
 
-abbrev entry : tie.After-admit → tie.Start
+abbrev entry : tie.After-admit-door → tie.Start
 entry c = c.before.before.before.before
 
 -- What the door answered.
-answered : (c : tie.After-admit) → admitted (entry c).args.t1 (entry c).args.n ≡ c.admit.result
-answered c = at_the_door _ _ c.admit.ensures.0 c.before.is_prepared_lem.ensures.0
+answered : (c : tie.After-admit-door) → admitted (entry c).args.pattern (entry c).args.n ≡ c.admit-door.result
+answered c = at_the_door _ _ c.admit-door.ensures.0 c.before.is_prepared.ensures.0
 
-let_in : (c : tie.After-enum-told) → (let args = (entry c.before.before).args in admitted args.t1 args.n ≡ Admitted)
-let_in c = answered c.before.before ∙ c.enum_told.given.1
+let_in : (c : tie.In-Admitted) → (let args = (entry c.before).args in admitted args.pattern args.n ≡ Admitted)
+let_in c = answered c.before ∙ c.in-Admitted.is
 
 -- What the tables are read off.
-fields : (c : tie.After-enum-told) → Fields (entry c.before.before).args.t1
+fields : (c : tie.In-Admitted) → Fields (entry c.before).args.pattern
 fields c = fields_of _ (admitted_is _ _ (let_in c)).prepared
 
 -- The first pass tells whether the journal is accepted, and leaves the list as it was.
-abbrev told : tie.After-follow → tie.After-enum-told
-told c = c.before.before.before.before.before.before.before.before.before
+abbrev told : tie.After-follow-first → tie.In-Admitted
+told c = c.before.before.before.before.before.before.before.before
 
-first : (c : tie.After-follow)
-    → (let args = (entry (told c).before.before).args in
-    c.follow.result.accepts ≡ accepted (word_of args.t1) args.n args.journal.now (length args.positions.now))
-first c = (of_the_word _ (fields (told c)) c.follow.ensures).told
+first : (c : tie.After-follow-first)
+    → (let args = (entry (told c).before).args in
+    c.follow-first.result.accepts ≡ accepted (word_of args.pattern) args.n args.journal.now (length args.positions.now))
+first c = (of_the_word _ (fields (told c)) c.follow-first.ensures).told
 
-unwritten : (c : tie.After-follow)
-    → (let list = (entry (told c).before.before).args.positions.now in c.follow.new.1.1.1.1.1.1.1.1.0 ++ drop 0 list ≡ list)
-unwritten c = nothing_written c.follow.new.1.1.1.1.1.1.1.1.0 (entry (told c).before.before).args.positions.now
-    c.follow.auto.1.1.1.1.1.1.1.1.0
+unwritten : (c : tie.After-follow-first)
+    → (let list = (entry (told c).before).args.positions.now in c.follow-first.new.positions ++ drop 0 list ≡ list)
+unwritten c = nothing_written c.follow-first.new.positions (entry (told c).before).args.positions.now
+    c.follow-first.auto.positions
 
-returns : tie.Need-returns
+returns : tie.Need-returns-then-not-first
 returns c =
     let after = c.before.before.before.before in
     let at_told = told after in
-    let args = (entry at_told.before.before).args in
+    let args = (entry at_told.before).args in
     rw (unwritten after)
-    (promises args.t1 args.n _ _ (false_journal args.t1 args.n _ _ (let_in at_told) (sym (first after) ∙ not-true _ c.if1.true)))
+    (promises args.pattern args.n _ _ (false_journal args.pattern args.n _ _ (let_in at_told) (sym (first after) ∙ c.if-not-first.true)))
 
 -- The second goes over one that is.
-abbrev accepting : tie.After-follow2 → tie.Else1
-accepting c = c.before.before.before.before.before.before.before.before.before
+abbrev accepting : tie.After-follow-second → tie.Else-not-first
+accepting c = c.before.before.before.before.before.before.before.before
 
-returns-2 : tie.Need-returns-2
+returns-2 : tie.Need-returns-else-not-first
 returns-2 c =
     let second = c.before.before.before in
     let yes = accepting second in
     let after = yes.before.before.before.before in
     let at_told = told after in
-    let args = (entry at_told.before.before).args in
-    let accepts = sym (first after) ∙ not-false _ yes.if1.left in
-    let G = rw (unwritten after) at (of_the_word args.t1 (fields at_told) second.follow2.ensures) in
-    promises args.t1 args.n _ _
-    (ran args.t1 args.n _ _ (let_in at_told) accepts (G.reported (G.told ∙ accepts)) (G.list (G.told ∙ accepts) refl))
+    let args = (entry at_told.before).args in
+    let accepts = sym (first after) ∙ yes.if-not-first.false in
+    let G = rw (unwritten after) at (of_the_word args.pattern (fields at_told) second.follow-second.ensures) in
+    promises args.pattern args.n _ _
+    (ran args.pattern args.n _ _ (let_in at_told) accepts (G.reported (G.told ∙ accepts)) (G.list (G.told ∙ accepts) refl))
 
-returns-3 : tie.Need-returns-3
+returns-3 : tie.Need-returns-in-Refused
 returns-3 c =
-    let at-door = c.before in
-    let asked = at-door.before.before in
+    let at-door = c in
+    let asked = at-door.before in
     let args = (entry asked).args in
-    promises args.t1 args.n _ _ (refused args.t1 args.n _ _ (answered asked ∙ at-door.door.given.1))
+    promises args.pattern args.n _ _ (refused args.pattern args.n _ _ (answered asked ∙ at-door.in-Refused.is))
 
-pub replay-spec : {M : Type 1} → statement M
-replay-spec =
+pub replay_spec : {M : Type 1} → statement M
+replay_spec =
     tie.close
     (tie.spec
     (λ c κs. search rules)
@@ -84,11 +84,11 @@ replay-spec =
     (λ c. search rules)
     (λ c. search rules)
     (λ c. search rules)
-    (λ c κs. let at_told = c.before.before.before.before.before.before.before.before in
-    (lent_tables _ (fields at_told), (admitted_is _ _ (let_in at_told)).fits))
+    (λ c κs. let at_told = c.before.before.before.before.before.before.before in
+    (lent_tables _ (fields c.before.before.before.before.before.before.before), (admitted_is _ _ (let_in c.before.before.before.before.before.before.before)).fits))
     (λ c. search rules)
     returns
-    (λ c κs. let at_told = told c.before.before.before.before.before.before.before.before.before.before.before.before in
+    (λ c κs. let at_told = told c.before.before.before.before.before.before.before.before.before.before.before in
     (lent_tables _ (fields at_told), (admitted_is _ _ (let_in at_told)).fits))
     (λ c. search rules)
     (λ c. search rules)

@@ -12,10 +12,10 @@ pub put_spec : {M : Type 1} → statement M
 put_spec =
     tie.close
     (tie.spec
-    (λ c. sym (no_room (numbers c.before.args.row) _ c.if1.true))
+    (λ c. sym (no_room (numbers c.before.args.row) _ c.if-rows-lt-ROW.true))
     (λ c. search rules)
     (λ c. simp length-set (omega arith))
     (λ c. simp length-set (omega arith))
     (λ c. search rules)
     (λ c. search rules)
-    (λ c. four_stored _ _ _ _ _ c.if1.false))
+    (λ c. four_stored _ _ _ _ _ c.if-rows-lt-ROW.false))

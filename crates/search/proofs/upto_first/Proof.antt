@@ -12,51 +12,51 @@ use Rattle.search.proofs.Stops.{stop_refused, stop_scanned}
 use Rattle.search.proofs.upto_first.Statement.{statement}
 use Rattle.search.proofs.upto_first.Tie as tie
 
-abbrev entry : tie.After-admit → tie.Start
+abbrev entry : tie.After-admit-door → tie.Start
 entry c = c.before.before.before
 
 -- What the door answered.
-answered : (c : tie.After-admit) → admitted (entry c).args.t1 (length (entry c).args.text.now) ≡ c.admit.result
-answered c = at_the_door _ _ c.admit.ensures.0 c.before.is_prepared_lem.ensures.0
+answered : (c : tie.After-admit-door) → admitted (entry c).args.pattern (length (entry c).args.text.now) ≡ c.admit-door.result
+answered c = at_the_door _ _ c.admit-door.ensures.0 c.before.is_prepared.ensures.0
 
-let_in : (c : tie.After-enum-told) → (let args = (entry c.before.before).args in admitted args.t1 (length args.text.now) ≡ Admitted)
-let_in c = answered c.before.before ∙ c.enum_told.given.1
+let_in : (c : tie.In-Admitted) → (let args = (entry c.before).args in admitted args.pattern (length args.text.now) ≡ Admitted)
+let_in c = answered c.before ∙ c.in-Admitted.is
 
 -- Before the letters are put.
-abbrev before-letters : tie.After-put-first → tie.After-enum-told
-before-letters c = c.before.before.before.before.before.before.before
+abbrev before-letters : tie.After-put_first → tie.In-Admitted
+before-letters c = c.before.before.before.before.before.before
 
 -- What they are read off.
-fields : (c : tie.After-enum-told) → Fields (entry c.before.before).args.t1
+fields : (c : tie.In-Admitted) → Fields (entry c.before).args.pattern
 fields c = fields_of _ (admitted_is _ _ (let_in c)).prepared
 
-put-first-requires : tie.Need-put-first-requires
-put-first-requires c κs = lent_bytes _ (fields c.before.before.before.before.before.before)
+put-first-requires : tie.Need-put_first-requires
+put-first-requires c κs = lent_bytes _ (fields c.before.before.before.before.before)
 
-slice-aggregate-scan : tie.Need-slice-aggregate-scan
+slice-aggregate-scan : tie.Need-slice_bounds-scan-end
 slice-aggregate-scan c = sym c.before.before.put_first.ensures.size
 
-scan-requires : tie.Need-scan-requires
+scan-requires : tie.Need-scan-stop-requires
 scan-requires c κs =
     let put = c.before.before.before.before.before.before.before.before.before.before.before in
-    let told = before-letters put in
+    let told = before-letters c.before.before.before.before.before.before.before.before.before.before in
     let F = fields told in
-    let L = put.put_first.ensures in
+    let L = c.put_first.ensures in
     (lent_order _ F L, (lent_moves _ F L, (F.usable.size, omega (arith, (admitted_is _ _ (let_in told)).fits))))
 
-returns : tie.Need-returns
+returns : tie.Need-returns-in-Admitted
 returns c =
     let put = c.before.before.before.before.before.before.before.before.before.before.before.before in
-    let told = before-letters put in
-    stop_scanned _ _ (let_in told) (letters_are _ (fields told) put.put_first.ensures) c.scan.ensures
+    let told = before-letters c.before.before.before.before.before.before.before.before.before.before.before in
+    stop_scanned _ _ (let_in told) (letters_are _ (fields told) c.put_first.ensures) c.scan-stop.ensures
 
-returns-2 : tie.Need-returns-2
+returns-2 : tie.Need-returns-in-Refused
 returns-2 c =
-    let at-door = c.before in
-    sym (stop_refused _ _ (answered at-door.before.before ∙ at-door.door.given.1))
+    let at-door = c in
+    sym (stop_refused _ _ (answered at-door.before ∙ at-door.in-Refused.is))
 
-pub upto-first-spec : {M : Type 1} → statement M
-upto-first-spec =
+pub upto_first_spec : {M : Type 1} → statement M
+upto_first_spec =
     tie.close
     (tie.spec
     (λ c κs. search rules)

@@ -8,25 +8,25 @@ use Rattle.checked.proofs.Same.{other_lengths, Compared, none_compared, one_more
 use Rattle.checked.proofs.fields.same_bytes.Statement.{statement}
 use Rattle.checked.proofs.fields.same_bytes.Tie as tie
 
-abbrev invariant-loop : tie.invariant-loop
-invariant-loop a b same₀ i₀ same i = (i ≤ length a) × Compared a b i same
+abbrev invariant-loop-i : tie.invariant-loop-i
+invariant-loop-i a b same₀ i₀ same i = (i ≤ length a) × Compared a b i same
 
-abbrev decreases-loop : tie.decreases-loop
-decreases-loop a b same₀ i₀ same i = length a - i
+abbrev decreases-loop-i : tie.decreases-loop-i
+decreases-loop-i a b same₀ i₀ same i = length a - i
 
-loop-again : tie.Need-loop-preserved invariant-loop decreases-loop
-loop-again c = (omega arith, one_more c.before.before.before.loop.invariant.1 (omega arith) (omega arith))
+loop-again : tie.Need-loop-i-preserved invariant-loop-i decreases-loop-i
+loop-again c = (omega arith, one_more c.before.before.before.loop-i.invariant.1 (omega arith) (omega arith))
 
-returns-2 : tie.Need-returns-2 invariant-loop decreases-loop
-returns-2 c = all_compared c.before.loop.invariant.1 (omega arith) (omega arith)
+returns-2 : tie.Need-returns invariant-loop-i decreases-loop-i
+returns-2 c = all_compared c.before.loop-i.invariant.1 (omega arith) (omega arith)
 
-pub same-bytes-spec : {M : Type 1} → statement M
-same-bytes-spec =
+pub same_bytes_spec : {M : Type 1} → statement M
+same_bytes_spec =
     tie.close
     (tie.spec
-    invariant-loop
-    decreases-loop
-    (λ c. other_lengths _ _ c.if1.true)
+    invariant-loop-i
+    decreases-loop-i
+    (λ c. other_lengths _ _ c.if-a-b.true)
     (λ c. (omega arith, none_compared _ _))
     (λ c. search rules)
     (λ c. search rules)

@@ -13,8 +13,8 @@ returns c =
     let three = one_more two (omega arith) (omega arith) in
     all_compared (one_more three (omega arith) (omega arith)) (omega arith) (omega arith)
 
-pub same-marks-spec : {M : Type 1} → statement M
-same-marks-spec =
+pub same_marks_spec : {M : Type 1} → statement M
+same_marks_spec =
     tie.close
     (tie.spec
     (λ c. search rules)

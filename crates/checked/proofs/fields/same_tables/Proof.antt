@@ -8,8 +8,8 @@ returns : tie.Need-returns
 unfolding same_tables
 returns c = cc
 
-pub same-tables-spec : {M : Type 1} → statement M
-same-tables-spec =
+pub same_tables_spec : {M : Type 1} → statement M
+same_tables_spec =
     tie.close
     (tie.spec
     (λ c κs. search rules)

@@ -7,38 +7,38 @@ use Rattle.correct.proofs.Moves.{LeftMoved, left_start, left_on}
 use Rattle.correct.proofs.moving.slide_left.Statement.{statement}
 use Rattle.correct.proofs.moving.slide_left.Tie as tie
 
-abbrev invariant-loop : tie.invariant-loop
-invariant-loop list₀ from count to i₀ list i = LeftMoved list₀ from count to list i
+abbrev invariant-loop-i : tie.invariant-loop-i
+invariant-loop-i list₀ from count to i₀ list i = LeftMoved list₀ from count to list i
 
-abbrev decreases-loop : tie.decreases-loop
-decreases-loop list₀ from count to i₀ list i = count - i
+abbrev decreases-loop-i : tie.decreases-loop-i
+decreases-loop-i list₀ from count to i₀ list i = count - i
 
-loop-again : tie.Need-loop-preserved invariant-loop decreases-loop
+loop-again : tie.Need-loop-i-preserved invariant-loop-i decreases-loop-i
 loop-again c =
     let at-loop = c.before.before in
-    left_on _ _ _ _ at-loop.before.requires.0 at-loop.before.requires.1 at-loop.loop.list at-loop.loop.i c.before.loop-test.true at-loop.loop.invariant
+    left_on _ _ _ _ at-loop.before.requires.0 at-loop.before.requires.1 at-loop.loop-i.list at-loop.loop-i.i c.before.loop-i-test.true at-loop.loop-i.invariant
 
-returns : tie.Need-returns invariant-loop decreases-loop
+returns : tie.Need-returns invariant-loop-i decreases-loop-i
 returns c =
     let at-loop = c.before in
-    let z : at-loop.loop.i ≡ at-loop.before.args.count = omega (arith, at-loop.loop.invariant.upto, c.loop-test.false) in
-    rw z at at-loop.loop.invariant.list
+    let z : at-loop.loop-i.i ≡ at-loop.before.args.count = omega (arith, at-loop.loop-i.invariant.upto, c.loop-i-test.false) in
+    rw z at at-loop.loop-i.invariant.list
 
-pub slide-left-spec : {M : Type 1} → statement M
-slide-left-spec =
+pub slide_left_spec : {M : Type 1} → statement M
+slide_left_spec =
     tie.close
     (tie.spec
-    invariant-loop
-    decreases-loop
+    invariant-loop-i
+    decreases-loop-i
     (λ c. left_start _ _ _ _ c.requires.0 c.requires.1)
     (λ c. search rules)
     (λ c. search rules)
-    (λ c. omega (arith, c.before.before.loop.invariant.size, c.before.before.loop.invariant.upto))
+    (λ c. omega (arith, c.before.before.loop-i.invariant.size, c.before.before.loop-i.invariant.upto))
     (λ c. search rules)
     (λ c. search rules)
-    (λ c. omega (arith, c.before.before.loop.invariant.size, c.before.before.loop.invariant.upto))
+    (λ c. omega (arith, c.before.before.loop-i.invariant.size, c.before.before.loop-i.invariant.upto))
     (λ c. search rules)
     (λ c. omega arith)
     loop-again
-    (λ c. c.before.loop.invariant.size)
+    (λ c. c.before.loop-i.invariant.size)
     returns)

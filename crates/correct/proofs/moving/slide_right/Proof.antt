@@ -5,35 +5,35 @@ use Rattle.correct.proofs.Moves.{RightMoved, right_start, right_on, right_end}
 use Rattle.correct.proofs.moving.slide_right.Statement.{statement}
 use Rattle.correct.proofs.moving.slide_right.Tie as tie
 
-abbrev invariant-loop : tie.invariant-loop
-invariant-loop list₀ from count to i₀ list i = RightMoved list₀ from count to list i
+abbrev invariant-loop-i : tie.invariant-loop-i
+invariant-loop-i list₀ from count to i₀ list i = RightMoved list₀ from count to list i
 
-abbrev decreases-loop : tie.decreases-loop
-decreases-loop list₀ from count to i₀ list i = i
+abbrev decreases-loop-i : tie.decreases-loop-i
+decreases-loop-i list₀ from count to i₀ list i = i
 
-loop-again : tie.Need-loop-preserved invariant-loop decreases-loop
+loop-again : tie.Need-loop-i-preserved invariant-loop-i decreases-loop-i
 loop-again c =
     let at-loop = c.before.before in
-    right_on _ _ _ _ at-loop.before.requires.0 at-loop.before.requires.1 at-loop.loop.list at-loop.loop.i c.before.loop-test.true at-loop.loop.invariant
+    right_on _ _ _ _ at-loop.before.requires.0 at-loop.before.requires.1 at-loop.loop-i.list at-loop.loop-i.i c.before.loop-i-test.true at-loop.loop-i.invariant
 
-returns : tie.Need-returns invariant-loop decreases-loop
-returns c = right_end _ _ _ _ c.before.before.requires.0 c.before.before.requires.1 _ c.before.loop.i c.loop-test.false c.before.loop.invariant
+returns : tie.Need-returns invariant-loop-i decreases-loop-i
+returns c = right_end _ _ _ _ c.before.before.requires.0 c.before.before.requires.1 _ c.before.loop-i.i c.loop-i-test.false c.before.loop-i.invariant
 
-pub slide-right-spec : {M : Type 1} → statement M
-slide-right-spec =
+pub slide_right_spec : {M : Type 1} → statement M
+slide_right_spec =
     tie.close
     (tie.spec
-    invariant-loop
-    decreases-loop
+    invariant-loop-i
+    decreases-loop-i
     (λ c. right_start _ _ _ _ c.requires.0 c.requires.1)
     (λ c. search rules)
-    (λ c. omega (arith, c.before.loop.invariant.upto, c.before.before.requires))
-    (λ c. omega (arith, c.before.loop.invariant.upto, c.before.before.requires))
-    (λ c. omega (arith, c.before.before.loop.invariant.size, c.before.before.loop.invariant.upto))
-    (λ c. omega (arith, c.before.before.loop.invariant.upto, c.before.before.before.requires))
-    (λ c. omega (arith, c.before.before.loop.invariant.upto, c.before.before.before.requires))
-    (λ c. omega (arith, c.before.before.loop.invariant.size, c.before.before.loop.invariant.upto))
+    (λ c. omega (arith, c.before.loop-i.invariant.upto, c.before.before.requires))
+    (λ c. omega (arith, c.before.loop-i.invariant.upto, c.before.before.requires))
+    (λ c. omega (arith, c.before.before.loop-i.invariant.size, c.before.before.loop-i.invariant.upto))
+    (λ c. omega (arith, c.before.before.loop-i.invariant.upto, c.before.before.before.requires))
+    (λ c. omega (arith, c.before.before.loop-i.invariant.upto, c.before.before.before.requires))
+    (λ c. omega (arith, c.before.before.loop-i.invariant.size, c.before.before.loop-i.invariant.upto))
     (λ c. omega arith)
     loop-again
-    (λ c. c.before.loop.invariant.size)
+    (λ c. c.before.loop-i.invariant.size)
     returns)

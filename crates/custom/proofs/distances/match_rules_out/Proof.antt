@@ -5,11 +5,11 @@ use Rattle.custom.proofs.Trying.{match_short, match_tested}
 use Rattle.custom.proofs.distances.match_rules_out.Statement.{statement}
 use Rattle.custom.proofs.distances.match_rules_out.Tie as tie
 
-pub match-rules-out-spec : {M : Type 1} → statement M
-match-rules-out-spec =
+pub match_rules_out_spec : {M : Type 1} → statement M
+match_rules_out_spec =
     tie.close
     (tie.spec
-    (λ c. match_short _ _ _ (omega (arith, c.if1.true)))
+    (λ c. match_short _ _ _ (omega (arith, c.if-p-k.true)))
     (λ c. search rules)
     (λ c. search rules)
-    (λ c. match_tested _ _ _ (omega (arith, c.before.before.if1.false))))
+    (λ c. match_tested _ _ _ (omega (arith, c.before.before.if-p-k.false))))

@@ -9,8 +9,8 @@ returns : tie.Need-returns
 unfolding number_at
 returns c = search rules
 
-pub number-at-spec : {M : Type 1} → statement M
-number-at-spec =
+pub number_at_spec : {M : Type 1} → statement M
+number_at_spec =
     tie.close
     (tie.spec
     (λ c. search rules)

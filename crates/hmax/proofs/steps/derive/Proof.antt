@@ -25,19 +25,19 @@ record Inv (w before s : List ℕ) (k q v : ℕ) : Type 0 where
   pub known : HasHmax w s q
   pub kept : KeptFrom (suc (length w)) before s
 
-abbrev invariant-loop : tie.invariant-loop
-invariant-loop bytes table₀ k i q₀ v₀ table q v = Inv bytes table₀ table k q v
+abbrev invariant-loop-v : tie.invariant-loop-v
+invariant-loop-v bytes table₀ k i q₀ v₀ table q v = Inv bytes table₀ table k q v
 
-abbrev decreases-loop : tie.decreases-loop
-decreases-loop bytes table₀ k i q₀ v₀ table q v = suc i - q
+abbrev decreases-loop-v : tie.decreases-loop-v
+decreases-loop-v bytes table₀ k i q₀ v₀ table q v = suc i - q
 
-abbrev start : tie.At-loop invariant-loop decreases-loop → tie.Start invariant-loop decreases-loop
+abbrev start : tie.At-loop-v invariant-loop-v decreases-loop-v → tie.Start invariant-loop-v decreases-loop-v
 start c = c.before.before.before.before.before
 
-abbrev word : tie.At-loop invariant-loop decreases-loop → List ℕ
+abbrev word : tie.At-loop-v invariant-loop-v decreases-loop-v → List ℕ
 word c = (start c).args.bytes.now
 
-loop-holds : tie.Need-loop-init invariant-loop decreases-loop
+loop-holds : tie.Need-loop-v-init invariant-loop-v decreases-loop-v
 loop-holds c =
     let at_start = c.before.before.before.before in
     let w = at_start.args.bytes.now in
@@ -54,87 +54,87 @@ loop-holds c =
     }
 
 -- The prefix of k is not longer than the pattern; and what is given lies from q on.
-upto : (c : tie.At-loop invariant-loop decreases-loop) → hmax (word c) (start c).args.k ≤ length (word c)
+upto : (c : tie.At-loop-v invariant-loop-v decreases-loop-v) → hmax (word c) (start c).args.k ≤ length (word c)
 upto c = let pre = (start c).requires.1.1 in (hmax_is (word c) (start c).args.k pre.0 pre.1).upto
 
-from : (c : tie.At-loop invariant-loop decreases-loop) → c.loop.q ≤ c.loop.v
+from : (c : tie.At-loop-v invariant-loop-v decreases-loop-v) → c.loop-v.q ≤ c.loop-v.v
 from c =
-    let inv = c.loop.invariant in
+    let inv = c.loop-v.invariant in
     let above = inv.above in
     let near = inv.near in
-    omega (arith, inv.gives, (hmax_is (word c) (c.loop.q - (start c).args.k) (omega arith) (omega (arith, upto c, (start c).requires.1.1.0))).from)
+    omega (arith, inv.gives, (hmax_is (word c) (c.loop-v.q - (start c).args.k) (omega arith) (omega (arith, upto c, (start c).requires.1.1.0))).from)
 
 -- So q is a place, where an entry is given.
-inside : (c : tie.In-loop invariant-loop decreases-loop) → c.before.loop.q ≤ length (word c.before)
+inside : (c : tie.In-loop-v invariant-loop-v decreases-loop-v) → c.before.loop-v.q ≤ length (word c.before)
 inside c = omega (arith, upto c.before, from c.before)
 
-cast-table : tie.Need-overflow-cast-table invariant-loop decreases-loop
+cast-table : tie.Need-overflow_cast-table invariant-loop-v decreases-loop-v
 cast-table c = omega (arith, upto c.before)
 
-slice-write-table : tie.Need-slice-write-table invariant-loop decreases-loop
-slice-write-table c = omega (arith, inside c, c.before.loop.invariant.kept.size)
+slice-write-table : tie.Need-bounds-table-q invariant-loop-v decreases-loop-v
+slice-write-table c = omega (arith, inside c, c.before.loop-v.invariant.kept.size)
 
 -- One entry more is given.
-more : (c : tie.In-loop invariant-loop decreases-loop) →
+more : (c : tie.In-loop-v invariant-loop-v decreases-loop-v) →
     let at-loop = c.before in
     let w = word at-loop in
     let k = (start at-loop).args.k in
-    let q = at-loop.loop.q in
-    (hmax w (q - k) + k < hmax w k) × (at-loop.loop.v ≡ hmax w q)
+    let q = at-loop.loop-v.q in
+    (hmax w (q - k) + k < hmax w k) × (at-loop.loop-v.v ≡ hmax w q)
 more c =
     let at-loop = c.before in
     let w = word at-loop in
     let k = (start at-loop).args.k in
-    let q = at-loop.loop.q in
-    let inv = at-loop.loop.invariant in
+    let q = at-loop.loop-v.q in
+    let inv = at-loop.loop-v.invariant in
     let less : hmax w (q - k) + k < hmax w k = omega (arith, inv.gives) in
     (less, omega (arith, inv.gives, given w k q (start at-loop).requires.1.1.0 inv.above (inside c) less))
 
-stored : (c : tie.In-loop invariant-loop decreases-loop) →
-    let here = c.before.loop in
+stored : (c : tie.In-loop-v invariant-loop-v decreases-loop-v) →
+    let here = c.before.loop-v in
     HasHmax (word c.before) (set here.table here.q here.v) (here.q + 1)
 stored c =
     let at-loop = c.before in
-    let inv = at-loop.loop.invariant in
-    hmax_store at-loop.loop.table at-loop.loop.q at-loop.loop.v (word at-loop)
+    let inv = at-loop.loop-v.invariant in
+    hmax_store at-loop.loop-v.table at-loop.loop-v.q at-loop.loop-v.v (word at-loop)
     (omega (arith, inside c, inv.kept.size)) (more c).1 inv.known
 
-slice-read-wide-2 : tie.Need-slice-read-wide-2 invariant-loop decreases-loop
+slice-read-wide-2 : tie.Need-bounds-table-q-in-loop-v invariant-loop-v decreases-loop-v
 slice-read-wide-2 c =
     let at-loop = c.before.before in
-    simp length-set (omega (arith, inside c.before, at-loop.loop.invariant.kept.size, (start at-loop).requires.1.1.0))
+    simp length-set (omega (arith, inside c.before, at-loop.loop-v.invariant.kept.size, (start at-loop).requires.1.1.0))
 
-add-v-2 : tie.Need-overflow-add-v-2 invariant-loop decreases-loop
+add-v-2 : tie.Need-overflow_add-v-in-loop-v invariant-loop-v decreases-loop-v
 add-v-2 c = omega (arith, upto c.before.before.before)
 
-loop-less : tie.Need-loop-smaller invariant-loop decreases-loop
+loop-less : tie.Need-loop-v-smaller invariant-loop-v decreases-loop-v
 loop-less c = let at-loop = c.before.before.before in omega (arith, from at-loop)
 
-loop-again : tie.Need-loop-preserved invariant-loop decreases-loop
+loop-again : tie.Need-loop-v-preserved invariant-loop-v decreases-loop-v
 loop-again c =
     let in-loop = c.before.before in
     let at-loop = in-loop.before in
     let k = (start at-loop).args.k in
-    let q = at-loop.loop.q in
-    let inv = at-loop.loop.invariant in
+    let q = at-loop.loop-v.q in
+    let inv = at-loop.loop-v.invariant in
     record {
       above = omega (arith, inv.above);
       near = omega (arith, from at-loop);
-      gives = ap (λ (x : ℕ). x + k) (c.wide2.ensures.0 ∙ stored in-loop (q + 1 - k) (omega (arith, (start at-loop).requires.1.1.0)));
+      gives = ap (λ (x : ℕ). x + k) (c.wide-in-loop-v.ensures.0 ∙ stored in-loop (q + 1 - k) (omega (arith, (start at-loop).requires.1.1.0)));
       passed = λ p a b. ⊎_elim
           (λ (before : p < q). inv.passed p a before)
           (λ (after : q ≤ p). let same : p ≡ q = omega arith in rw same (more in-loop).0)
           (less_or p q);
       known = stored in-loop;
-      kept = kept_store at-loop.loop.table q _ (omega (arith, inside in-loop)) inv.kept;
+      kept = kept_store at-loop.loop-v.table q _ (omega (arith, inside in-loop)) inv.kept;
     }
 
-same_length : tie.Need-same-length invariant-loop decreases-loop
-same_length c = c.before.loop.invariant.kept.size
+same_length : tie.Need-shape_of-table invariant-loop-v decreases-loop-v
+same_length c = c.before.loop-v.invariant.kept.size
 
-returns : tie.Need-returns invariant-loop decreases-loop
+returns : tie.Need-returns invariant-loop-v decreases-loop-v
 returns c =
-    let inv = c.before.loop.invariant in
+    let inv = c.before.loop-v.invariant in
     record {
       first = record {
         more = inv.above;
@@ -146,12 +146,12 @@ returns c =
       rest = inv.kept.rest;
     }
 
-pub derive-spec : {M : Type 1} → statement M
-derive-spec =
+pub derive_spec : {M : Type 1} → statement M
+derive_spec =
     tie.close
     (tie.spec
-    invariant-loop
-    decreases-loop
+    invariant-loop-v
+    decreases-loop-v
     (λ c. search rules)
     (λ c. search rules)
     (λ c κs. search rules)

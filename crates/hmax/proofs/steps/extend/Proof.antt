@@ -11,42 +11,42 @@ use Rattle.hmax.proofs.Hmaxes.{ends_where_differ, leads_on, ends_with_word}
 use Rattle.hmax.proofs.steps.extend.Statement.{statement}
 use Rattle.hmax.proofs.steps.extend.Tie as tie
 
-abbrev invariant-loop : tie.invariant-loop
-invariant-loop bytes k from i₀ i = (from ≤ i) × (i ≤ hmax bytes k)
+abbrev invariant-loop-i : tie.invariant-loop-i
+invariant-loop-i bytes k from i₀ i = (from ≤ i) × (i ≤ hmax bytes k)
 
-abbrev decreases-loop : tie.decreases-loop
-decreases-loop bytes k from i₀ i = length bytes - i
+abbrev decreases-loop-i : tie.decreases-loop-i
+decreases-loop-i bytes k from i₀ i = length bytes - i
 
-returns : tie.Need-returns invariant-loop decreases-loop
+returns : tie.Need-returns-then-not-agree invariant-loop-i decreases-loop-i
 returns c =
     let at-loop = c.before.before.before.before.before in
-    let inv = at-loop.loop.invariant in
+    let inv = at-loop.loop-i.invariant in
     let pre = at-loop.before.before.requires in
-    ends_where_differ _ _ at-loop.loop.i pre.0 pre.2 (omega arith) inv.1
-    (eqb-false _ _ (sym c.before.agree.ensures ∙ not-true _ c.if1.true))
+    ends_where_differ _ _ at-loop.loop-i.i pre.0 pre.2 (omega arith) inv.1
+    (eqb-false _ _ (sym c.before.agree.ensures ∙ c.if-not-agree.true))
 
-loop-again : tie.Need-loop-preserved invariant-loop decreases-loop
+loop-again : tie.Need-loop-i-preserved invariant-loop-i decreases-loop-i
 loop-again c =
     let at_test = c.before.before.before.before in
     let at-loop = at_test.before in
-    let inv = at-loop.loop.invariant in
+    let inv = at-loop.loop-i.invariant in
     let pre = at-loop.before.before.requires in
-    let on = leads_on _ _ at-loop.loop.i pre.0 pre.2 (omega arith) inv.1 at_test.loop-test.true in
-    (omega arith, on (eqb-true _ _ (sym c.before.agree.ensures ∙ not-false _ c.if1.false)))
+    let on = leads_on _ _ at-loop.loop-i.i pre.0 pre.2 (omega arith) inv.1 at_test.loop-i-test.true in
+    (omega arith, on (eqb-true _ _ (sym c.before.agree.ensures ∙ c.if-not-agree.false)))
 
-returns-2 : tie.Need-returns-2 invariant-loop decreases-loop
+returns-2 : tie.Need-returns invariant-loop-i decreases-loop-i
 returns-2 c =
     let at-loop = c.before in
-    let inv = at-loop.loop.invariant in
+    let inv = at-loop.loop-i.invariant in
     let pre = at-loop.before.before.requires in
-    ends_with_word _ _ at-loop.loop.i pre.0 pre.2 (omega arith) inv.1 c.loop-test.false
+    ends_with_word _ _ at-loop.loop-i.i pre.0 pre.2 (omega arith) inv.1 c.loop-i-test.false
 
-pub extend-spec : {M : Type 1} → statement M
-extend-spec =
+pub extend_spec : {M : Type 1} → statement M
+extend_spec =
     tie.close
     (tie.spec
-    invariant-loop
-    decreases-loop
+    invariant-loop-i
+    decreases-loop-i
     (λ c. search rules)
     (λ c. search rules)
     (λ c. search rules)

@@ -21,72 +21,72 @@ record Inv (w before s : List ℕ) (k : ℕ) : Type 0 where
   pub known : HasHmax w s k
   pub kept : KeptFrom (suc (length w)) before s
 
-abbrev invariant-loop : tie.invariant-loop
-invariant-loop bytes table₀ from m k₀ table k = Inv bytes table₀ table k
+abbrev invariant-loop-k : tie.invariant-loop-k
+invariant-loop-k bytes table₀ from m k₀ table k = Inv bytes table₀ table k
 
-abbrev decreases-loop : tie.decreases-loop
-decreases-loop bytes table₀ from m k₀ table k = length bytes + 1 - k
+abbrev decreases-loop-k : tie.decreases-loop-k
+decreases-loop-k bytes table₀ from m k₀ table k = length bytes + 1 - k
 
-abbrev start : tie.At-loop invariant-loop decreases-loop → tie.Start invariant-loop decreases-loop
+abbrev start : tie.At-loop-k invariant-loop-k decreases-loop-k → tie.Start invariant-loop-k decreases-loop-k
 start c = c.before.before.before
 
-abbrev word : tie.At-loop invariant-loop decreases-loop → List ℕ
+abbrev word : tie.At-loop-k invariant-loop-k decreases-loop-k → List ℕ
 word c = (start c).args.bytes.now
 
-loop-holds : tie.Need-loop-init invariant-loop decreases-loop
+loop-holds : tie.Need-loop-k-init invariant-loop-k decreases-loop-k
 loop-holds c =
     let pre = c.before.before.requires.1 in
     record { positive = pre.1.0; upto = omega (arith, pre.1.1); whole = λ l. pre.1.2; known = pre.0; kept = kept_same _ }
 
-slice-write-table : tie.Need-slice-write-table invariant-loop decreases-loop
-slice-write-table c = omega (arith, c.before.loop.invariant.kept.size)
+slice-write-table : tie.Need-bounds-table-k invariant-loop-k decreases-loop-k
+slice-write-table c = omega (arith, c.before.loop-k.invariant.kept.size)
 
-derive-requires : tie.Need-derive-requires invariant-loop decreases-loop
+derive-requires : tie.Need-derive-k-requires invariant-loop-k decreases-loop-k
 derive-requires c κs =
     let at-loop = c.before.before in
-    let here = at-loop.loop in
+    let here = at-loop.loop-k in
     let inv = here.invariant in
-    let inside = c.before.loop-test.true in
+    let inside = c.before.loop-k-test.true in
     let this = sym (inv.whole inside) in
     let stored = next_stored (word at-loop) _ here.table here.k _ (start at-loop).requires.0 inv.kept inside this inv.known in
     (stored.0, (stored.1, (inv.positive, inside, this)))
 
-loop-less : tie.Need-loop-smaller invariant-loop decreases-loop
-loop-less c = omega (arith, c.before.before.derive.ensures.first.more)
+loop-less : tie.Need-loop-k-smaller invariant-loop-k decreases-loop-k
+loop-less c = omega (arith, c.before.before.derive-k.ensures.first.more)
 
-loop-again : tie.Need-loop-preserved invariant-loop decreases-loop
+loop-again : tie.Need-loop-k-preserved invariant-loop-k decreases-loop-k
 loop-again c =
     let at-derive = c.before.before in
     let in-loop = at-derive.before.before in
     let at-loop = in-loop.before in
     let w = word at-loop in
-    let here = at-loop.loop in
+    let here = at-loop.loop-k in
     let inv = here.invariant in
-    let r = at-derive.derive.result in
-    let derived = at-derive.derive.ensures in
+    let r = at-derive.derive-k.result in
+    let derived = at-derive.derive-k.ensures in
     let first = derived.first in
-    let stored = kept_store here.table here.k (length w) (omega (arith, in-loop.loop-test.true)) inv.kept in
+    let stored = kept_store here.table here.k (length w) (omega (arith, in-loop.loop-k-test.true)) inv.kept in
     record {
       positive = omega (arith, first.more);
       upto = first.upto;
       whole = λ l.
           let longer = not_given w here.k r inv.positive first.more l (first.stops l) in
-          omega (arith, longer, inv.whole in-loop.loop-test.true, (hmax_is w r (omega (arith, first.more)) l).upto);
+          omega (arith, longer, inv.whole in-loop.loop-k-test.true, (hmax_is w r (omega (arith, first.more)) l).upto);
       known = derived.known;
-      kept = kept_both stored record { rest = derived.rest; size = at-derive.derive.auto.1.0 };
+      kept = kept_both stored record { rest = derived.rest; size = at-derive.derive-k.auto.table };
     }
 
-returns : tie.Need-returns invariant-loop decreases-loop
+returns : tie.Need-returns invariant-loop-k decreases-loop-k
 returns c =
-    let inv = c.before.loop.invariant in
+    let inv = c.before.loop-k.invariant in
     record { known = λ k l. inv.known k (omega arith); rest = inv.kept.rest }
 
-pub fill-rest-spec : {M : Type 1} → statement M
-fill-rest-spec =
+pub fill_rest_spec : {M : Type 1} → statement M
+fill_rest_spec =
     tie.close
     (tie.spec
-    invariant-loop
-    decreases-loop
+    invariant-loop-k
+    decreases-loop-k
     loop-holds
     (λ c. search rules)
     (λ c. search rules)
@@ -94,5 +94,5 @@ fill-rest-spec =
     derive-requires
     loop-less
     loop-again
-    (λ c. c.before.loop.invariant.kept.size)
+    (λ c. c.before.loop-k.invariant.kept.size)
     returns)

@@ -7,77 +7,63 @@ use Rattle.job.proofs.Printed.{line_ends}
 use Rattle.job.proofs.lines.put_ending.Statement.{statement}
 use Rattle.job.proofs.lines.put_ending.Tie as tie
 
-enum_told : tie.Need-enum-told
+enum_told : tie.Need-enum_told-1
 enum_told c = search rules
-
-slice-aggregate-put : tie.Need-slice-aggregate-put
-slice-aggregate-put c = search rules
 
 put-requires : tie.Need-put-requires
 put-requires c κs = search rules
 
-enum-known-ending : tie.Need-enum-known-ending
+enum-known-ending : tie.Need-enum_known-ending
 enum-known-ending c = search rules
 
-slice-aggregate-put-line : tie.Need-slice-aggregate-put-line
-slice-aggregate-put-line c = search rules
-
-put-line-requires : tie.Need-put-line-requires
+put-line-requires : tie.Need-put_line-requires
 put-line-requires c κs = search rules
 
-enum-known-ending-2 : tie.Need-enum-known-ending-2
+enum-known-ending-2 : tie.Need-enum_known-ending-in-Full-1
 enum-known-ending-2 c = search rules
 
-slice-aggregate-put-line-2 : tie.Need-slice-aggregate-put-line-2
-slice-aggregate-put-line-2 c = search rules
-
-put-line-requires-2 : tie.Need-put-line-requires-2
+put-line-requires-2 : tie.Need-put_line-requires-in-Full
 put-line-requires-2 c κs = search rules
 
-same_length : tie.Need-same-length
+same_length : tie.Need-shape_of-out-in-Done
 same_length c = search rules
 
-returns : tie.Need-returns
+returns : tie.Need-returns-in-Done
 unfolding ending_line
 returns c =
     let at-put = c.before.before in
     let P = at-put.put.ensures in
-    (rw at-put.before.before.before.enum_told.given.1 P, omega (arith, P.place))
+    (rw at-put.before.before.before.in-Done.is P, omega (arith, P.place))
 
-same-length-2 : tie.Need-same-length-2
+same-length-2 : tie.Need-shape_of-out-in-Spent
 same-length-2 c = search rules
 
-returns-2 : tie.Need-returns-2
+returns-2 : tie.Need-returns-in-Spent
 unfolding ending_line
 returns-2 c =
     let at-put = c.before.before in
-    let spent = at-put.before.before.before.before.ending.given in
-    let P = at-put.put-line.ensures in
-    (rw spent.1 P, omega (arith, line_ends (ascii "end spent at ") spent.0.0 P))
+    let P = at-put.put_line.ensures in
+    (rw at-put.in-Spent.is P, omega (arith, line_ends (ascii "end spent at ") at-put.in-Spent.b P))
 
-same-length-3 : tie.Need-same-length-3
+same-length-3 : tie.Need-shape_of-out-in-Full
 same-length-3 c = search rules
 
-returns-3 : tie.Need-returns-3
+returns-3 : tie.Need-returns-in-Full
 unfolding ending_line
 returns-3 c =
     let at-put = c.before.before in
-    let full = at-put.before.before.before.before.ending2.given in
-    let P = at-put.put-line2.ensures in
-    (rw full.1 P, omega (arith, line_ends (ascii "end full at ") full.0.0 P))
+    let P = at-put.put_line-in-Full.ensures in
+    (rw at-put.in-Full.is P, omega (arith, line_ends (ascii "end full at ") at-put.in-Full.b P))
 
-pub put-ending-spec : {M : Type 1} → statement M
-put-ending-spec =
+pub put_ending_spec : {M : Type 1} → statement M
+put_ending_spec =
     tie.close
     (tie.spec
     enum_told
-    slice-aggregate-put
     put-requires
     enum-known-ending
-    slice-aggregate-put-line
     put-line-requires
     enum-known-ending-2
-    slice-aggregate-put-line-2
     put-line-requires-2
     same_length
     returns

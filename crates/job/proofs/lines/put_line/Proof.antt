@@ -7,23 +7,20 @@ use Rattle.job.proofs.Decimals.{length_decimal}
 use Rattle.job.proofs.lines.put_line.Statement.{statement}
 use Rattle.job.proofs.lines.put_line.Tie as tie
 
-put-requires : tie.Need-put-requires
+put-requires : tie.Need-put-a-requires
 put-requires c κs = search rules
 
-put-decimal-requires : tie.Need-put-decimal-requires
+put-decimal-requires : tie.Need-put_decimal-b-requires
 put-decimal-requires c κs = search rules
 
-slice-aggregate-put : tie.Need-slice-aggregate-put
-slice-aggregate-put c = search rules
-
-put-requires-2 : tie.Need-put-requires-2
+put-requires-2 : tie.Need-put-requires
 put-requires-2 c κs =
     let at-decimal = c.before.before.before.before in
     let at-word = at-decimal.before.before.before.before in
     let entry = at-word.before.before.before.before in
-    omega (arith, entry.requires, at-word.put.ensures, at-decimal.put-decimal.ensures, length_decimal entry.args.n)
+    omega (arith, entry.requires, at-word.put-a.ensures, at-decimal.put_decimal-b.ensures, length_decimal entry.args.n)
 
-same_length : tie.Need-same-length
+same_length : tie.Need-shape_of-out
 same_length c = search rules
 
 returns : tie.Need-returns
@@ -32,15 +29,14 @@ returns c =
     let at-newline = c.before.before in
     let at-decimal = at-newline.before.before.before.before.before in
     let at-word = at-decimal.before.before.before.before in
-    puts_more at-word.put.ensures (puts_more at-decimal.put-decimal.ensures at-newline.put2.ensures)
+    puts_more at-word.put-a.ensures (puts_more at-decimal.put_decimal-b.ensures at-newline.put.ensures)
 
-pub put-line-spec : {M : Type 1} → statement M
-put-line-spec =
+pub put_line_spec : {M : Type 1} → statement M
+put_line_spec =
     tie.close
     (tie.spec
     put-requires
     put-decimal-requires
-    slice-aggregate-put
     put-requires-2
     same_length
     returns)

@@ -4,30 +4,26 @@ use Rattle.job.specs.Printed.{refused_line}
 use Rattle.job.proofs.lines.put_refused.Statement.{statement}
 use Rattle.job.proofs.lines.put_refused.Tie as tie
 
-slice-aggregate-put-line : tie.Need-slice-aggregate-put-line
-slice-aggregate-put-line c = search rules
-
 number-requires : tie.Need-number-requires
 number-requires c κs = search rules
 
-cast-put-line : tie.Need-overflow-cast-put-line
+cast-put-line : tie.Need-overflow_cast-number
 cast-put-line c = search rules
 
-put-line-requires : tie.Need-put-line-requires
+put-line-requires : tie.Need-put_line-requires
 put-line-requires c κs = search rules
 
-same_length : tie.Need-same-length
+same_length : tie.Need-shape_of-out
 same_length c = search rules
 
 returns : tie.Need-returns
 unfolding refused_line
-returns c = rw c.before.before.before.number.ensures at c.before.before.put-line.ensures
+returns c = rw c.before.before.before.number.ensures at c.before.before.put_line.ensures
 
-pub put-refused-spec : {M : Type 1} → statement M
-put-refused-spec =
+pub put_refused_spec : {M : Type 1} → statement M
+put_refused_spec =
     tie.close
     (tie.spec
-    slice-aggregate-put-line
     number-requires
     cast-put-line
     put-line-requires

@@ -11,53 +11,53 @@ use Rattle.job.proofs.Writing.{length_kept, puts_nothing, puts_next}
 use Rattle.job.proofs.text.put.Statement.{statement}
 use Rattle.job.proofs.text.put.Tie as tie
 
-abbrev invariant-loop : tie.invariant-loop
-invariant-loop out₀ at bytes i₀ out i = (i ≤ length bytes) × Puts out₀ out at (take i bytes) (at + i)
+abbrev invariant-loop-i : tie.invariant-loop-i
+invariant-loop-i out₀ at bytes i₀ out i = (i ≤ length bytes) × Puts out₀ out at (take i bytes) (at + i)
 
-abbrev decreases-loop : tie.decreases-loop
-decreases-loop out₀ at bytes i₀ out i = length bytes - i
+abbrev decreases-loop-i : tie.decreases-loop-i
+decreases-loop-i out₀ at bytes i₀ out i = length bytes - i
 
-loop-holds : tie.Need-loop-init invariant-loop decreases-loop
+loop-holds : tie.Need-loop-i-init invariant-loop-i decreases-loop-i
 loop-holds c = (omega arith, rw add-zero (puts_nothing _ _ (omega arith)))
 
-shared-slice-read-out : tie.Need-shared-slice-read-out invariant-loop decreases-loop
+shared-slice-read-out : tie.Need-bounds-bytes-i invariant-loop-i decreases-loop-i
 shared-slice-read-out c = search rules
 
-add-out : tie.Need-overflow-add-out invariant-loop decreases-loop
+add-out : tie.Need-overflow_add-out invariant-loop-i decreases-loop-i
 add-out c = search rules
 
-slice-write-out : tie.Need-slice-write-out invariant-loop decreases-loop
-slice-write-out c = omega (arith, length_kept c.before.before.loop.invariant.1)
+slice-write-out : tie.Need-bounds-out-at invariant-loop-i decreases-loop-i
+slice-write-out c = omega (arith, length_kept c.before.before.loop-i.invariant.1)
 
-add-i : tie.Need-overflow-add-i invariant-loop decreases-loop
+add-i : tie.Need-overflow_add-i invariant-loop-i decreases-loop-i
 add-i c = search rules
 
-loop-less : tie.Need-loop-smaller invariant-loop decreases-loop
+loop-less : tie.Need-loop-i-smaller invariant-loop-i decreases-loop-i
 loop-less c = search rules
 
-loop-again : tie.Need-loop-preserved invariant-loop decreases-loop
+loop-again : tie.Need-loop-i-preserved invariant-loop-i decreases-loop-i
 loop-again c =
     let at-loop = c.before.before in
-    (omega arith, puts_next _ at-loop.loop.i at-loop.loop.invariant.1 c.before.loop-test.true (omega arith))
+    (omega arith, puts_next _ at-loop.loop-i.i at-loop.loop-i.invariant.1 c.before.loop-i-test.true (omega arith))
 
-add-result : tie.Need-overflow-add-result invariant-loop decreases-loop
+add-result : tie.Need-overflow_add-result invariant-loop-i decreases-loop-i
 add-result c = search rules
 
-same_length : tie.Need-same-length invariant-loop decreases-loop
-same_length c = length_kept c.before.loop.invariant.1
+same_length : tie.Need-shape_of-out invariant-loop-i decreases-loop-i
+same_length c = length_kept c.before.loop-i.invariant.1
 
-returns : tie.Need-returns invariant-loop decreases-loop
+returns : tie.Need-returns invariant-loop-i decreases-loop-i
 returns c =
     let at-loop = c.before in
     let bytes = at-loop.before.args.bytes.now in
-    rw (take_all at-loop.loop.i bytes c.loop-test.false) at at-loop.loop.invariant.1
+    rw (take_all at-loop.loop-i.i bytes c.loop-i-test.false) at at-loop.loop-i.invariant.1
 
 pub put_spec : {M : Type 1} → statement M
 put_spec =
     tie.close
     (tie.spec
-    invariant-loop
-    decreases-loop
+    invariant-loop-i
+    decreases-loop-i
     loop-holds
     shared-slice-read-out
     add-out

@@ -4,32 +4,32 @@ use Rattle.job.proofs.Decimals.{spelt}
 use Rattle.job.proofs.text.put_decimal.Statement.{statement}
 use Rattle.job.proofs.text.put_decimal.Tie as tie
 
-digits-of-requires : tie.Need-digits-of-requires
+digits-of-requires : tie.Need-digits_of-d-requires
 digits-of-requires c κs = search rules
 
-sub-put : tie.Need-overflow-sub-put
+sub-put : tie.Need-slice_bounds-put-count
 sub-put c = search rules
 
-part-put-start : tie.Need-slice-bounds-put-start
+part-put-start : tie.Need-slice_bounds-put-start
 part-put-start c = search rules
 
-part-put-end : tie.Need-slice-bounds-put-end
+part-put-end : tie.Need-slice_bounds-put-end
 part-put-end c = search rules
 
 put-requires : tie.Need-put-requires
 put-requires c κs = search rules
 
-same_length : tie.Need-same-length
+same_length : tie.Need-shape_of-out
 same_length c = search rules
 
 returns : tie.Need-returns
 returns c =
     let at-put = c.before.before in
     let at-digits = at-put.before.before.before.before.before in
-    rw (spelt at-digits.digits_of.ensures) at at-put.put.ensures
+    rw (spelt at-put.digits_of-d.ensures) at at-put.put.ensures
 
-pub put-decimal-spec : {M : Type 1} → statement M
-put-decimal-spec =
+pub put_decimal_spec : {M : Type 1} → statement M
+put_decimal_spec =
     tie.close
     (tie.spec
     digits-of-requires

@@ -5,11 +5,11 @@ use Rattle.classes.proofs.Through.{length_through}
 use Rattle.lengths.proofs.scan.scan.Statement.{statement}
 use Rattle.lengths.proofs.scan.scan.Tie as tie
 
-rest-requires : tie.Need-rest-requires
+rest-requires : tie.Need-rest-more-requires
 rest-requires c κs =
     let inside = c.before.before.before in
     let start = inside.before.before.before.before.before.before.before in
-    let S = inside.inside.ensures.0 in
+    let S = inside.inside-reached.ensures.0 in
     let size = length_through start.args.classes.now start.args.text.now in (
       start.requires.0,
       (
@@ -24,11 +24,11 @@ returns c =
     let inside = rest.before.before.before.before in
     let start = inside.before.before.before.before.before.before.before in
     let size = length_through start.args.classes.now start.args.text.now in
-    let done = rest.rest.ensures.0 start.args.lengths.now inside.inside.result.again inside.inside.ensures.0 in
+    let done = rest.rest-more.ensures.0 start.args.lengths.now inside.inside-reached.result.again inside.inside-reached.ensures.0 in
     (omega (arith, done.0, size), done.1)
 
-pub scan-spec : {M : Type 1} → statement M
-scan-spec =
+pub scan_spec : {M : Type 1} → statement M
+scan_spec =
     tie.close
     (tie.spec
     (λ c κs. search rules)

@@ -7,22 +7,28 @@ use Rattle.classes.proofs.Through.{length_through}
 use Rattle.lengths.proofs.steps.begin.Statement.{statement}
 use Rattle.lengths.proofs.steps.begin.Tie as tie
 
-returns : tie.Need-returns
-returns c = inl (c.if1.true, refl, refl, refl)
+returns : tie.Need-returns-then-i-gt0
+returns c = inl (c.if-i-gt0.true, refl, refl, refl)
 
-returns-2 : tie.Need-returns-2
+returns-2 : tie.Need-returns-then-first-text
 returns-2 c =
     let start = c.before.before.before.before.before.before.before.before.before in
     let size = length_through start.args.classes.now start.args.text.now in
-    inr (omega arith, c.before.before.before.pass.ensures, inl (omega (arith, size), refl))
+    inr (omega arith, c.before.before.before.pass-first.ensures, inl (omega (arith, size), refl))
 
-returns-3 : tie.Need-returns-3
+returns-3 : tie.Need-returns-else-first-text
 returns-3 c =
     let start = c.before.before.before.before.before.before.before.before.before in
     let size = length_through start.args.classes.now start.args.text.now in
-    let P = c.before.before.before.pass.ensures in
+    let P = c.before.before.before.pass-first.ensures in
     inr (omega arith, P, inr (omega (arith, size, P.upto), refl))
 
-pub begin-spec : {M : Type 1} → statement M
-begin-spec =
-    tie.close (tie.spec returns (λ c κs. search rules) (λ c. search rules) returns-2 (λ c. search rules) returns-3)
+pub begin_spec : {M : Type 1} → statement M
+begin_spec =
+    tie.close (tie.spec
+    returns
+    (λ c κs. search rules)
+    (λ c. search rules)
+    returns-2
+    (λ c. search rules)
+    returns-3)

@@ -10,38 +10,38 @@ use Rattle.lengths.proofs.Loops.{Agreed, agreed_none, agreed_one, agreed_all}
 use Rattle.lengths.proofs.steps.extend.Statement.{statement}
 use Rattle.lengths.proofs.steps.extend.Tie as tie
 
-abbrev invariant-loop : tie.invariant-loop
-invariant-loop letters classes text b from end p₀ p = Agreed letters (through classes text) b from end p × (p < end)
+abbrev invariant-loop-p : tie.invariant-loop-p
+invariant-loop-p letters classes text b from end p₀ p = Agreed letters (through classes text) b from end p × (p < end)
 
-abbrev decreases-loop : tie.decreases-loop
-decreases-loop letters classes text b from end p₀ p = end - p
+abbrev decreases-loop-p : tie.decreases-loop-p
+decreases-loop-p letters classes text b from end p₀ p = end - p
 
-loop-holds : tie.Need-loop-init invariant-loop decreases-loop
+loop-holds : tie.Need-loop-p-init invariant-loop-p decreases-loop-p
 loop-holds c = (agreed_none _ _ _ _ _ (omega arith), omega arith)
 
-returns : tie.Need-returns invariant-loop decreases-loop
+returns : tie.Need-returns-then-p-end invariant-loop-p decreases-loop-p
 returns c =
-    let inv = c.before.before.before.before.loop.invariant in
+    let inv = c.before.before.before.before.loop-p.invariant in
     agreed_all _ _ _ _ _
-    (agreed_one _ _ _ _ _ inv.0 inv.1 (eqb-true _ _ (sym c.before.before.agree.ensures ∙ c.before.if1.true))) (λ l. absurd (omega arith))
+    (agreed_one _ _ _ _ _ inv.0 inv.1 (eqb-true _ _ (sym c.before.before.agree.ensures ∙ c.before.loop-p-test.true))) (λ l. absurd (omega arith))
 
-loop-again : tie.Need-loop-preserved invariant-loop decreases-loop
+loop-again : tie.Need-loop-p-preserved invariant-loop-p decreases-loop-p
 loop-again c =
-    let inv = c.before.before.before.before.loop.invariant in (
-      agreed_one _ _ _ _ _ inv.0 inv.1 (eqb-true _ _ (sym c.before.before.agree.ensures ∙ c.before.if1.true)),
+    let inv = c.before.before.before.before.loop-p.invariant in (
+      agreed_one _ _ _ _ _ inv.0 inv.1 (eqb-true _ _ (sym c.before.before.agree.ensures ∙ c.before.loop-p-test.true)),
       omega (arith, inv.1),
     )
 
-returns-2 : tie.Need-returns-2 invariant-loop decreases-loop
+returns-2 : tie.Need-returns invariant-loop-p decreases-loop-p
 returns-2 c =
-    agreed_all _ _ _ _ _ c.before.before.before.loop.invariant.0 (λ l. eqb-false _ _ (sym c.before.agree.ensures ∙ c.if1.false))
+    agreed_all _ _ _ _ _ c.before.before.before.loop-p.invariant.0 (λ l. eqb-false _ _ (sym c.before.agree.ensures ∙ c.loop-p-test.false))
 
-pub extend-spec : {M : Type 1} → statement M
-extend-spec =
+pub extend_spec : {M : Type 1} → statement M
+extend_spec =
     tie.close
     (tie.spec
-    invariant-loop
-    decreases-loop
+    invariant-loop-p
+    decreases-loop-p
     loop-holds
     (λ c. search rules)
     (λ c. search rules)

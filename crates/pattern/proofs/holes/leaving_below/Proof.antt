@@ -8,7 +8,7 @@ use Rattle.pattern.proofs.HoleRanks.{below_counted, leaves_period, leaves_no_per
 use Rattle.pattern.proofs.holes.leaving_below.Statement.{statement}
 use Rattle.pattern.proofs.holes.leaving_below.Tie as tie
 
-returns : tie.Need-returns
+returns : tie.Need-returns-then-wide-m
 returns c =
     let start = c.before.before.before.before.before in
     let w = start.args.bytes.now in
@@ -16,7 +16,7 @@ returns c =
     let entry = start.requires.1.0.hmaxes p (omega arith) in
     leaves_no_period w p (omega arith) (omega arith) (omega arith) start.requires.1.1.1.2
 
-returns-2 : tie.Need-returns-2
+returns-2 : tie.Need-returns
 returns-2 c =
     let start = c.before.before.before.before.before.before.before.before in
     let w = start.args.bytes.now in
@@ -24,12 +24,12 @@ returns-2 c =
     let sizes = start.requires.0 in
     let tables = start.requires.1.0 in
     let entry = tables.hmaxes p (omega arith) in
-    let first = c.before.wide2.ensures.0 ∙ tables.hmaxes 1 (omega arith) in
+    let first = c.before.wide-2.ensures.0 ∙ tables.hmaxes 1 (omega arith) in
     leaves_period w p (omega arith) (omega arith) _ (omega arith)
-    (c.below-from.ensures ∙ below_counted w _ (length w - p) sizes.some first start.requires.1.1.0.words (omega arith))
+    (c.below_from-next.ensures ∙ below_counted w _ (length w - p) sizes.some first start.requires.1.1.0.words (omega arith))
 
-pub leaving-below-spec : {M : Type 1} → statement M
-leaving-below-spec =
+pub leaving_below_spec : {M : Type 1} → statement M
+leaving_below_spec =
     tie.close
     (tie.spec
     (λ c. search rules)

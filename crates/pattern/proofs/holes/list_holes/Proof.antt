@@ -32,14 +32,14 @@ turn w short left i s n k a some least e E I = record {
   holes = rw e (holes_place w short left (left - 1) i s n k (omega arith) (omega (arith, I.upto)) least E I.holes);
 }
 
-abbrev invariant-loop : tie.invariant-loop
-invariant-loop bytes scratch marks whole d order₀ shift₀ next₀ m left₀ i₀ at₀ order shift next left i at =
+abbrev invariant-loop-left : tie.invariant-loop-left
+invariant-loop-left bytes scratch marks whole d order₀ shift₀ next₀ m left₀ i₀ at₀ order shift next left i at =
     Inv bytes order shift next left i at.shift at.next
 
-abbrev decreases-loop : tie.decreases-loop
-decreases-loop bytes scratch marks whole d order₀ shift₀ next₀ m left₀ i₀ at₀ order shift next left i at = left
+abbrev decreases-loop-left : tie.decreases-loop-left
+decreases-loop-left bytes scratch marks whole d order₀ shift₀ next₀ m left₀ i₀ at₀ order shift next left i at = left
 
-loop-holds : tie.Need-loop-init invariant-loop decreases-loop
+loop-holds : tie.Need-loop-left-init invariant-loop-left decreases-loop-left
 loop-holds c =
     let start = c.before.before in
     let given = start.requires.1.1.1 in
@@ -49,86 +49,86 @@ loop-holds c =
       holes = holes_begin _ _ given.0 given.1;
     }
 
-abbrev at_start : tie.At-loop invariant-loop decreases-loop → tie.Start invariant-loop decreases-loop
+abbrev at_start : tie.At-loop-left invariant-loop-left decreases-loop-left → tie.Start invariant-loop-left decreases-loop-left
 at_start c = c.before.before.before
 
-leaving-below-requires : tie.Need-leaving-below-requires invariant-loop decreases-loop
+leaving-below-requires : tie.Need-leaving_below-at-requires invariant-loop-left decreases-loop-left
 leaving-below-requires c κs =
     let start = at_start c.before in
-    (start.pre.0, (start.pre.1.0, (start.pre.1.1.0, (omega arith, omega arith, c.before.loop.invariant.leaves))))
+    (start.requires.0, (start.requires.1.0, (start.requires.1.1.0, (omega arith, omega arith, c.before.loop-left.invariant.leaves))))
 
 -- The place that is written, and what it leaves with.
-abbrev at-loop : tie.After-leaving-below invariant-loop decreases-loop → tie.At-loop invariant-loop decreases-loop
+abbrev at-loop : tie.After-leaving_below-at invariant-loop-left decreases-loop-left → tie.At-loop-left invariant-loop-left decreases-loop-left
 at-loop c = c.before.before
 
-abbrev leaves : tie.After-wide invariant-loop decreases-loop → tie.After-leaving-below invariant-loop decreases-loop
-leaves c = c.before.before.before.before
+abbrev leaves : tie.After-wide invariant-loop-left decreases-loop-left → tie.After-leaving_below-at invariant-loop-left decreases-loop-left
+leaves c = c.before.before.before.before.before.before.before
 
 -- Its numbers are small, and so is the rank that is free.
-at_place : (c : tie.After-leaving-below invariant-loop decreases-loop) →
+at_place : (c : tie.After-leaving_below-at invariant-loop-left decreases-loop-left) →
     let w = (at_start (at-loop c)).args.bytes.now in
-    let r = c.leaving-below.result in
-    Leaves w ((at-loop c).loop.left - 1) r.shift r.next × ((at-loop c).loop.i < length w) × (r.next ≤ length w)
+    let r = c.leaving_below-at.result in
+    Leaves w ((at-loop c).loop-left.left - 1) r.shift r.next × ((at-loop c).loop-left.i < length w) × (r.next ≤ length w)
 at_place c =
     let start = at_start (at-loop c) in
     let w = start.args.bytes.now in
-    let at = (at-loop c).loop in
-    let E = c.leaving-below.ensures in (
+    let at = (at-loop c).loop-left in
+    let E = c.leaving_below-at.ensures in (
       E,
-      holes_free w start.pre.0.short at.left (at.left - 1) at.i _ _ _ (omega arith) (omega arith) refl E at.inv.holes,
-      omega (arith, E.next, below_le w (length w - c.leaving-below.result.shift)),
+      holes_free w start.requires.0.short at.left (at.left - 1) at.i _ _ _ (omega arith) (omega arith) refl E at.invariant.holes,
+      omega (arith, E.next, below_le w (length w - c.leaving_below-at.result.shift)),
     )
 
 -- The same of what the rank m leaves with.
-at_end : (c : tie.After-loop invariant-loop decreases-loop) →
+at_end : (c : tie.After-loop-left invariant-loop-left decreases-loop-left) →
     let w = (at_start c.before).args.bytes.now in
-    (c.before.loop.at.shift ≤ length w) × (c.before.loop.at.next ≤ length w)
+    (c.before.loop-left.at.shift ≤ length w) × (c.before.loop-left.at.next ≤ length w)
 at_end c =
     let w = (at_start c.before).args.bytes.now in
-    let E = c.before.loop.invariant.leaves in
-    (E.upto, omega (arith, E.next, below_le w (length w - c.before.loop.at.shift)))
+    let E = c.before.loop-left.invariant.leaves in
+    (E.upto, omega (arith, E.next, below_le w (length w - c.before.loop-left.at.shift)))
 
-add-i : tie.Need-overflow-add-i invariant-loop decreases-loop
+add-i : tie.Need-overflow_add-i invariant-loop-left decreases-loop-left
 add-i c = omega (arith, at_place (leaves c.before))
 
-loop-again : tie.Need-loop-preserved invariant-loop decreases-loop
+loop-again : tie.Need-loop-left-preserved invariant-loop-left decreases-loop-left
 loop-again c =
     let at = at-loop (leaves c.before) in
     let start = at_start at in
     let P = at_place (leaves c.before) in
-    turn start.args.bytes.now start.pre.0.short at.loop.left at.loop.i _ _ _ _ (omega arith)
-    (c.before.wide.ensures.0 ∙ start.pre.1.0.kmins (at.loop.left - 1) (omega arith)) c.one-if.ensures.0 P.0 at.loop.inv
+    turn start.args.bytes.now start.requires.0.short at.loop-left.left at.loop-left.i _ _ _ _ (omega arith)
+    (c.before.wide.ensures.0 ∙ start.requires.1.0.kmins (at.loop-left.left - 1) (omega arith)) c.one_if-i.ensures.0 P.0 at.loop-left.invariant
 
-returns : tie.Need-returns invariant-loop decreases-loop
+returns : tie.Need-returns invariant-loop-left decreases-loop-left
 returns c =
     let at = c.before.before.before in
-    let start = at_start at in
-    let sizes = start.pre.0 in
-    let none : at.loop.left ≡ 0 = omega arith in
+    let start = at_start at.before.before in
+    let sizes = start.requires.0 in
+    let none : at.loop-left.left ≡ 0 = omega arith in
     last_ranked start.args.bytes.now _ _ sizes.short sizes.some
-    (holes_end start.args.bytes.now at.loop.left at.loop.i none at.loop.invariant.holes)
-    (rw none at at.loop.invariant.leaves)
+    (holes_end start.args.bytes.now at.loop-left.left at.loop-left.i none at.loop-left.invariant.holes)
+    (rw none at at.loop-left.invariant.leaves)
 
-pub list-holes-spec : {M : Type 1} → statement M
-list-holes-spec =
+pub list_holes_spec : {M : Type 1} → statement M
+list_holes_spec =
     tie.close
     (tie.spec
-    invariant-loop
-    decreases-loop
+    invariant-loop-left
+    decreases-loop-left
     loop-holds
     leaving-below-requires
     (λ c. search rules)
     (λ c. omega (arith, at_place c))
-    (λ c. omega (arith, at_place c))
     (λ c. omega (arith, at_place c.before))
-    (λ c. omega (arith, at_place c.before))
-    (λ c. omega (arith, at_place c.before))
-    (λ c. omega (arith, at_place c.before.before))
-    (λ c. omega (arith, at_place c.before.before))
-    (λ c. omega (arith, at_place c.before.before))
     (λ c. omega (arith, at_place c.before.before))
     (λ c. omega (arith, at_place c.before.before))
     (λ c. omega (arith, at_place c.before.before.before))
+    (λ c. omega (arith, at_place c.before.before.before.before))
+    (λ c. omega (arith, at_place c.before.before.before.before))
+    (λ c. omega (arith, at_place c.before.before.before.before.before))
+    (λ c. omega (arith, at_place c.before.before.before.before.before))
+    (λ c. omega (arith, at_place c.before.before.before.before.before))
+    (λ c. omega (arith, at_place c.before.before.before.before.before.before))
     (λ c κs. search rules)
     (λ c κs. search rules)
     add-i
@@ -136,8 +136,8 @@ list-holes-spec =
     loop-again
     (λ c. omega (arith, at_end c.before))
     (λ c. omega (arith, at_end c.before))
-    (λ c. omega (arith, at_end c.before))
     (λ c. omega (arith, at_end c.before.before))
-    (λ c. omega (arith, at_end c.before.before))
-    (λ c. omega (arith, at_end c.before.before))
+    (λ c. omega (arith, at_end c.before.before.before))
+    (λ c. omega (arith, at_end c.before.before.before))
+    (λ c. omega (arith, at_end c.before.before.before.before))
     returns)

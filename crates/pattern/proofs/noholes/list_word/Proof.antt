@@ -35,90 +35,90 @@ ends : (w : List ℕ) {orders shifts later : List ℕ} {word i t : ℕ} (from en
 ends w from end p e l I =
     word_passed w from p (from + 64) I.begun (omega (arith, I.upto)) (λ x g h. past_hole w x (omega (arith, I.upto))) I.lists
 
-abbrev invariant-loop : tie.invariant-loop
-invariant-loop bytes scratch from noholes many order₀ shift₀ later₀ m first end p₀ i₀ t₀ word₀ order shift later p i t word =
+abbrev invariant-loop-p : tie.invariant-loop-p
+invariant-loop-p bytes scratch from noholes many order₀ shift₀ later₀ m first end p₀ i₀ t₀ word₀ order shift later p i t word =
     Inv bytes order shift later from end p word i t
 
-abbrev decreases-loop : tie.decreases-loop
-decreases-loop bytes scratch from noholes many order₀ shift₀ later₀ m first end p₀ i₀ t₀ word₀ order shift later p i t word = end - p
+abbrev decreases-loop-p : tie.decreases-loop-p
+decreases-loop-p bytes scratch from noholes many order₀ shift₀ later₀ m first end p₀ i₀ t₀ word₀ order shift later p i t word = end - p
 
-abbrev at_first : tie.After-within invariant-loop decreases-loop → tie.After-wide invariant-loop decreases-loop
+abbrev at_first : tie.After-within-p invariant-loop-p decreases-loop-p → tie.After-wide-first invariant-loop-p decreases-loop-p
 at_first c = c.before.before
 
-abbrev at_start : tie.After-within invariant-loop decreases-loop → tie.Start invariant-loop decreases-loop
+abbrev at_start : tie.After-within-p invariant-loop-p decreases-loop-p → tie.Start invariant-loop-p decreases-loop-p
 at_start c = (at_first c).before.before.before.before
 
-abbrev at-loop : tie.In-loop invariant-loop decreases-loop → tie.At-loop invariant-loop decreases-loop
+abbrev at-loop : tie.In-loop-p invariant-loop-p decreases-loop-p → tie.At-loop-p invariant-loop-p decreases-loop-p
 at-loop c = c.before
 
-loop-holds : tie.Need-loop-init invariant-loop decreases-loop
+loop-holds : tie.Need-loop-p-init invariant-loop-p decreases-loop-p
 loop-holds c =
     let start = at_start c in
-    begins start.args.bytes.now start.args.from _ _ _ start.pre.0.some (omega arith) c.within.ensures
-    ((at_first c).wide.ensures.0 ∙ start.pre.1.0.hmaxes 1 (omega arith)) start.pre.1.1.1
+    begins start.args.bytes.now start.args.from _ _ _ start.requires.0.some (omega arith) c.within-p.ensures
+    ((at_first c).wide-first.ensures.0 ∙ start.requires.1.0.hmaxes 1 (omega arith)) start.requires.1.1.1
 
 -- The place is the pattern's and the word's, the rank that is free is the pattern's, and no more ranks are listed.
-under : (c : tie.In-loop invariant-loop decreases-loop) →
-    let at = (at-loop c).loop in
+under : (c : tie.In-loop-p invariant-loop-p decreases-loop-p) →
+    let at = (at-loop c).loop-p in
     let args = (at_start (at-loop c).before).args in
     let m = length args.bytes.now in
     (at.p < m) × (args.from ≤ at.p) × (at.p - args.from < 64) × (at.i < m) × (at.t ≤ at.i)
 under c =
-    let at = (at-loop c).loop in
+    let at = (at-loop c).loop-p in
     let within = (at-loop c).before in
     let w = (at_start within).args.bytes.now in
-    let L = at.inv.lists.lists in
-    let end = within.before.places-from.ensures in
-    let begun = at.inv.begun in
+    let L = at.invariant.lists.lists in
+    let end = within.before.places_from.ensures in
+    let begun = at.invariant.begun in
     let inside : at.p < length w = omega arith in
     (inside, begun, omega arith, omega (arith, L.rank, below_le w at.p), L.room)
 
 -- The k that is read is kmin(p).
-read : (c : tie.After-wide2 invariant-loop decreases-loop) →
+read : (c : tie.After-wide-k invariant-loop-p decreases-loop-p) →
     let at = at-loop c.before.before in
-    c.wide2.result ≡ kmin (at_start at.before).args.bytes.now at.loop.p
+    c.wide-k.result ≡ kmin (at_start at.before).args.bytes.now at.loop-p.p
 read c =
     let at = at-loop c.before.before in
-    c.wide2.ensures.0 ∙ (at_start at.before).pre.1.0.kmins at.loop.p (omega (arith, under c.before.before))
+    c.wide-k.ensures.0 ∙ (at_start at.before).requires.1.0.kmins at.loop-p.p (omega (arith, under c.before.before))
 
-add-word : tie.Need-overflow-add-word invariant-loop decreases-loop
+add-word : tie.Need-overflow_add-word invariant-loop-p decreases-loop-p
 add-word c =
-    let at = at-loop c.before.before.before in
+    let at = at-loop c.before.before.before.before.before.before in
     let args = (at_start at.before).args in
-    let U = under c.before.before.before in
+    let U = under c.before.before.before.before.before.before in
     let fits =
-    word_room args.bytes.now args.from at.loop.p at.loop.word at.loop.i at.loop.t _ _ U.1 U.2 U.0
-    (read c.before) c.one-if.ensures.0 at.loop.inv.lists in
+    word_room args.bytes.now args.from at.loop-p.p at.loop-p.word at.loop-p.i at.loop-p.t _ _ U.1 U.2 U.0
+    (read c.before.before.before.before) c.one_if-here.ensures.0 at.loop-p.invariant.lists in
     record { fits = fits }
 
-loop-again : tie.Need-loop-preserved invariant-loop decreases-loop
+loop-again : tie.Need-loop-p-preserved invariant-loop-p decreases-loop-p
 loop-again c =
-    let at = at-loop c.before.before.before.before in
+    let at = at-loop c.before.before.before.before.before.before.before in
     let within = at.before in
     let start = at_start within in
     let w = start.args.bytes.now in
-    let U = under c.before.before.before.before in
+    let U = under c.before.before.before.before.before.before.before in
     record {
       begun = omega arith;
       upto = omega arith;
-      lists = word_place w start.args.from at.loop.p at.loop.word at.loop.i at.loop.t _ _ U.1 U.2 U.0 (read c.before.before)
-          c.before.one-if.ensures.0 at.loop.inv.lists _ _ start.pre.0.short
-          ((at_first within).wide.ensures.0 ∙ start.pre.1.0.hmaxes 1 (omega arith)) c.one-if2.ensures.0;
+      lists = word_place w start.args.from at.loop-p.p at.loop-p.word at.loop-p.i at.loop-p.t _ _ U.1 U.2 U.0 (read c.before.before.before.before.before)
+          c.before.one_if-here.ensures.0 at.loop-p.invariant.lists _ _ start.requires.0.short
+          ((at_first within).wide-first.ensures.0 ∙ start.requires.1.0.hmaxes 1 (omega arith)) c.one_if-t.ensures.0;
     }
 
-returns : tie.Need-returns invariant-loop decreases-loop
+returns : tie.Need-returns invariant-loop-p decreases-loop-p
 returns c =
     let at = c.before in
     let args = (at_start at.before).args in
-    let end = at.before.before.places-from.ensures in
-    ends args.bytes.now args.from _ at.loop.p (omega arith) (omega arith) at.loop.invariant
+    let end = at.before.before.places_from.ensures in
+    ends args.bytes.now args.from _ at.loop-p.p (omega arith) (omega arith) at.loop-p.invariant
 
-pub list-word-spec : {M : Type 1} → statement M
-list-word-spec =
+pub list_word_spec : {M : Type 1} → statement M
+list_word_spec =
     tie.close
     (tie.spec
-    invariant-loop
-    decreases-loop
+    invariant-loop-p
+    decreases-loop-p
     (λ c. search rules)
     (λ c κs. search rules)
     (λ c κs. search rules)
@@ -130,21 +130,21 @@ list-word-spec =
     (λ c. omega (arith, under c.before))
     (λ c κs. search rules)
     (λ c. omega (arith, under c.before.before))
-    (λ c. omega (arith, under c.before.before))
+    (λ c. omega (arith, under c.before.before.before))
     (λ c. search rules)
-    (λ c. omega (arith, under c.before.before))
-    (λ c. omega (arith, under c.before.before))
-    (λ c. omega (arith, under c.before.before))
-    (λ c. omega (arith, under c.before.before))
+    (λ c. omega (arith, under c.before.before.before))
+    (λ c. omega (arith, under c.before.before.before.before))
+    (λ c. omega (arith, under c.before.before.before.before))
+    (λ c. omega (arith, under c.before.before.before.before.before))
     (λ c κs. search rules)
-    (λ c. omega (arith, under c.before.before.before))
-    (λ c. omega (arith, under c.before.before.before))
+    (λ c. omega (arith, under c.before.before.before.before.before.before))
+    (λ c. omega (arith, under c.before.before.before.before.before.before))
     add-word
-    (λ c. omega (arith, under c.before.before.before))
-    (λ c. omega (arith, under c.before.before.before))
+    (λ c. omega (arith, under c.before.before.before.before.before.before))
+    (λ c. omega (arith, under c.before.before.before.before.before.before))
     (λ c κs. search rules)
-    (λ c. omega (arith, under c.before.before.before.before))
-    (λ c. omega (arith, under c.before.before.before.before))
+    (λ c. omega (arith, under c.before.before.before.before.before.before.before))
+    (λ c. omega (arith, under c.before.before.before.before.before.before.before))
     (λ c. search rules)
     loop-again
     returns)

@@ -14,46 +14,46 @@ use Rattle.pattern.proofs.Lists.{none_stored, next_stored}
 use Rattle.pattern.proofs.whole.copied.Statement.{statement}
 use Rattle.pattern.proofs.whole.copied.Tie as tie
 
-abbrev invariant-loop : tie.invariant-loop
-invariant-loop bytes out₀ i₀ out i = (i ≤ length bytes) × (out ≡ padded longest_pattern (tabulate i (letter bytes)))
+abbrev invariant-loop-i : tie.invariant-loop-i
+invariant-loop-i bytes out₀ i₀ out i = (i ≤ length bytes) × (out ≡ padded longest_pattern (tabulate i (letter bytes)))
 
-abbrev decreases-loop : tie.decreases-loop
-decreases-loop bytes out₀ i₀ out i = length bytes - i
+abbrev decreases-loop-i : tie.decreases-loop-i
+decreases-loop-i bytes out₀ i₀ out i = length bytes - i
 
-loop-holds : tie.Need-loop-init invariant-loop decreases-loop
+loop-holds : tie.Need-loop-i-init invariant-loop-i decreases-loop-i
 loop-holds c = (omega arith, none_stored longest_pattern (letter c.args.bytes.now))
 
-shared-slice-read-out : tie.Need-shared-slice-read-out invariant-loop decreases-loop
+shared-slice-read-out : tie.Need-bounds-bytes-i invariant-loop-i decreases-loop-i
 shared-slice-read-out c = search rules
 
-array-write-out : tie.Need-array-write-out invariant-loop decreases-loop
+array-write-out : tie.Need-bounds-out-i invariant-loop-i decreases-loop-i
 array-write-out c = search rules
 
-add-i : tie.Need-overflow-add-i invariant-loop decreases-loop
+add-i : tie.Need-overflow_add-i invariant-loop-i decreases-loop-i
 add-i c = search rules
 
-loop-less : tie.Need-loop-smaller invariant-loop decreases-loop
+loop-less : tie.Need-loop-i-smaller invariant-loop-i decreases-loop-i
 loop-less c = search rules
 
-loop-again : tie.Need-loop-preserved invariant-loop decreases-loop
+loop-again : tie.Need-loop-i-preserved invariant-loop-i decreases-loop-i
 loop-again c =
-    let at-loop = c.before.before.loop in
+    let at-loop = c.before.before.loop-i in
     let w = c.before.before.before.args.bytes.now in
     (omega arith, next_stored longest_pattern (letter w) at-loop.i _ _ at-loop.invariant.1 refl (omega arith) refl)
 
-returns : tie.Need-returns invariant-loop decreases-loop
+returns : tie.Need-returns invariant-loop-i decreases-loop-i
 returns c =
-    let at-loop = c.before.loop in
+    let at-loop = c.before.loop-i in
     let w = c.before.before.args.bytes.now in
     let all : at-loop.i ≡ length w = omega arith in
     rw (all, entries_all w) at at-loop.invariant.1
 
-pub copied-spec : {M : Type 1} → statement M
-copied-spec =
+pub copied_spec : {M : Type 1} → statement M
+copied_spec =
     tie.close
     (tie.spec
-    invariant-loop
-    decreases-loop
+    invariant-loop-i
+    decreases-loop-i
     loop-holds
     shared-slice-read-out
     array-write-out

@@ -3,5 +3,6 @@ use mathlib.Core.Path.{refl}
 use Rattle.replay.proofs.follow.all_read.Statement.{statement}
 use Rattle.replay.proofs.follow.all_read.Tie as tie
 
-pub all-read-spec : {M : Type 1} → statement M
-all-read-spec = tie.close (tie.spec (λ c. refl))
+pub all_read_spec : {M : Type 1} → statement M
+all_read_spec = tie.close (tie.spec
+    (λ c. refl))

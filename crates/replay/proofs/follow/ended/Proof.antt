@@ -3,7 +3,11 @@ use borrow.Author.Rules.{rules}
 use Rattle.replay.proofs.follow.ended.Statement.{statement}
 use Rattle.replay.proofs.follow.ended.Tie as tie
 
-pub ended-spec : {M : Type 1} → statement M
-ended-spec =
+pub ended_spec : {M : Type 1} → statement M
+ended_spec =
     tie.close
-    (tie.spec (λ c κs. search rules) (λ c. search rules) (λ c κs. search rules) (λ c. rw (← c.before.minus.ensures) c.with-holes.ensures))
+    (tie.spec
+    (λ c κs. search rules)
+    (λ c. search rules)
+    (λ c κs. search rules)
+    (λ c. rw (← c.before.minus.ensures) c.with_holes.ensures))

@@ -16,5 +16,9 @@ returns c =
     let read = class ∙ sym (through_at args.classes.now args.text.now args.place begin.requires.1) in
     rw (← read) record { yes = eqb-true _ _; no = eqb-false _ _ }
 
-pub agree-spec : {M : Type 1} → statement M
-agree-spec = tie.close (tie.spec (λ c. search rules) (λ c κs. search rules) (λ c. search rules) returns)
+pub agree_spec : {M : Type 1} → statement M
+agree_spec = tie.close (tie.spec
+    (λ c. search rules)
+    (λ c κs. search rules)
+    (λ c. search rules)
+    returns)

@@ -3,8 +3,8 @@ use borrow.Author.Rules.{rules}
 use Rattle.search.proofs.kmp_scan.ended.Statement.{statement}
 use Rattle.search.proofs.kmp_scan.ended.Tie as tie
 
-pub ended-spec : {M : Type 1} → statement M
-ended-spec =
+pub ended_spec : {M : Type 1} → statement M
+ended_spec =
     tie.close
     (tie.spec
     (λ c. search rules)
@@ -13,4 +13,4 @@ ended-spec =
     (λ c κs. search rules)
     (λ c. search rules)
     (λ c κs. search rules)
-    (λ c. rw (← c.before.wide16.ensures.0) c.with-noholes.ensures))
+    (λ c. rw (← c.before.wide16.ensures.0) c.with_noholes.ensures))
