@@ -72,7 +72,7 @@ fits : (c : tie.After-around-around) → length (start c).args.text.now ≤ long
 fits c = (before c).before.if-n-gt-LONGEST_TEXT.false
 
 -- What was found.
-found : (c : tie.In-Ran-2)
+found : (c : tie.In-Ran)
     → (let at-search = c.before.before in
     let at-around = at-search.before.before.before in
     let args = (start at-around).args in

@@ -80,9 +80,9 @@ join_spec =
     (λ c. search rules)
     returns
     (λ c. inside c.before.before)
-    (λ c. let at_past = c.before.before in omega (arith, all_fit c.before, (entry at_past).well-formed))
+    (λ c. let at_past = c.before.before in omega (arith, all_fit c.before, (entry at_past).well_formed))
     slide-requires
     put-requires
-    (λ c. let room = c.before.before.before.before.before.before.before.before in omega (arith, all_fit room, (entry room.before).well-formed))
+    (λ c. let room = c.before.before.before.before.before.before.before.before in omega (arith, all_fit room, (entry room.before).well_formed))
     (λ c. search rules)
     returns-2)

@@ -50,7 +50,7 @@ returns c =
     let at_told = told after in
     let args = (entry at_told.before).args in
     rw (unwritten after)
-    (promises args.pattern args.n _ _ (false_journal args.pattern args.n _ _ (let_in at_told) (sym (first after) ∙ c.if-not-first.true)))
+    (promises args.pattern args.n _ _ (false_journal args.pattern args.n _ _ (let_in at_told) (sym (first after) ∙ not-true _ c.if-not-first.true)))
 
 -- The second goes over one that is.
 abbrev accepting : tie.After-follow-second → tie.Else-not-first
@@ -63,7 +63,7 @@ returns-2 c =
     let after = yes.before.before.before.before in
     let at_told = told after in
     let args = (entry at_told.before).args in
-    let accepts = sym (first after) ∙ yes.if-not-first.false in
+    let accepts = sym (first after) ∙ not-false _ yes.if-not-first.false in
     let G = rw (unwritten after) at (of_the_word args.pattern (fields at_told) second.follow-second.ensures) in
     promises args.pattern args.n _ _
     (ran args.pattern args.n _ _ (let_in at_told) accepts (G.reported (G.told ∙ accepts)) (G.list (G.told ∙ accepts) refl))

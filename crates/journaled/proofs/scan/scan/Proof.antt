@@ -115,11 +115,11 @@ missed : {e' h' : ℕ} (c : tie.After-leave-after invariant-loop-b decreases-loo
     → (let place = agree-place c.before.before in
     let at-loop = place-loop place in
     let args = (entry at-loop).args in
-    let loop = at-loop.loop in
-    let after = c.leave.result in
+    let loop = at-loop.loop-b in
+    let after = c.leave-after.result in
     e' ≡ edge_after_rank args.m args.d loop.b loop.i loop.e → h' ≡ loop.h + (loop.i + 1 - args.d)
     → Journals args.letters.now args.m args.d (text_of (entry at-loop)) args.cap args.positions.now loop.positions
-    args.journal.now (set loop.journal loop.c (2 * (loop.b + place.wide8.result))) after.window after.rank e' (loop.c + 1) h' loop.k)
+    args.journal.now (set loop.journal loop.c (2 * (loop.b + place.wide8-o.result))) after.window after.rank e' (loop.c + 1) h' loop.k)
 missed c edge holes =
     let differs = c.before in
     let place = agree-place differs.before in
@@ -127,9 +127,9 @@ missed c edge holes =
     let now-due = more.before in
     let at-loop = due-loop now-due in
     let E = entry at-loop in
-    let L = c.leave.ensures in
-    journals_missed _ _ _ _ E.pre.0 at-loop.loop.inv (inside now-due.before.before).1 _ (is-due now-due).0 place.wide8.ensures.0
-    (beyond place) more.if3.left (room more) (sym differs.before.agree.ensures ∙ differs.if4.false) refl E.pre.1.0 L.0 L.1 edge holes
+    let L = c.leave-after.ensures in
+    journals_missed _ _ _ _ E.requires.0 at-loop.loop-b.invariant (inside now-due.before.before).1 _ (is-due now-due).0 place.wide8-o.ensures.0
+    (beyond place) more.if-c-cap.false (room more) (sym differs.before.agree.ensures ∙ differs.if-agree.false) refl E.requires.1.0 L.0 L.1 edge holes
 
 missed-less : (c : tie.After-leave-after invariant-loop-b decreases-loop-b)
     → (let at-loop = place-loop (agree-place c.before.before) in

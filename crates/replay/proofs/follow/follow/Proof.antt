@@ -115,8 +115,8 @@ at_place c = ap (λ v. v / 2) (entry_read c.before) ∙ c.if-v-b.false
 missed : {e' h' : ℕ} (c : tie.After-leave-after invariant-loop-b decreases-loop-b)
     → (let at-loop = place-loop c.before.before.before in
     let args = (entry at-loop).args in
-    let loop = at-loop.loop in
-    let after = c.leave.result in
+    let loop = at-loop.loop-b in
+    let after = c.leave-after.result in
     e' ≡ edge_after_rank args.m args.d loop.b loop.i loop.e → h' ≡ loop.h + (loop.i + 1 - args.d)
     → ReplaysFor args.order.now args.shift.now args.next.now args.m args.d args.n args.size args.journal.now
     args.positions.now loop.positions after.window after.rank e' (loop.c + 1) h' loop.k)
@@ -124,10 +124,10 @@ missed c edge holes letters T M =
     let differs = c.before in
     let place = differs.before.before in
     let at-loop = place-loop place in
-    let L = c.leave.ensures in
-    replays_missed letters _ _ _ T (at-loop.loop.inv letters T M) (inside (more place).before.before.before).1 _ (is-due (more place).before).0
+    let L = c.leave-after.ensures in
+    replays_missed letters _ _ _ T (at-loop.loop-b.invariant letters T M) (inside (more place).before.before.before).1 _ (is-due (more place).before).0
     place.wide8.ensures.0 (beyond place) (room (more place)) (at_place differs.before)
-    (λ z. differs.if5.false (ap (λ v. v % 2) (sym (entry_read place)) ∙ z)) M L.0 L.1 edge holes
+    (λ z. differs.if-v-eq1.false (ap (λ v. v % 2) (sym (entry_read place)) ∙ z)) M L.0 L.1 edge holes
 
 missed-less : (c : tie.After-leave-after invariant-loop-b decreases-loop-b)
     → (let at-loop = place-loop c.before.before.before in
