@@ -33,5 +33,9 @@ returns c =
       ),
     )
 
-pub poqewan-colussi-spec : {M : Type 1} → statement M
-poqewan-colussi-spec = tie.close (tie.spec (λ c κs. search rules) (λ c κs. search rules) (λ c. search rules) returns)
+pub poqewan_colussi_spec : {M : Type 1} → statement M
+poqewan_colussi_spec = tie.close (tie.spec
+    (λ c κs. search rules)
+    (λ c κs. search rules)
+    (λ c. search rules)
+    returns)

@@ -10,7 +10,7 @@ returns : tie.Need-returns
 returns c =
     let a = c.before.find_first.result in
     let S = c.before.find_first.ensures in
-    let C = c.carry-first.ensures in
+    let C = c.carry_first.ensures in
     let classed = S.1.1 in
     let ceiling = classed.1 in
     let zeros = ceiling.1 in (
@@ -27,5 +27,8 @@ returns c =
       ),
     )
 
-pub poqewan-find-first-spec : {M : Type 1} → statement M
-poqewan-find-first-spec = tie.close (tie.spec (λ c κs. search rules) (λ c κs. search rules) returns)
+pub poqewan_find_first_spec : {M : Type 1} → statement M
+poqewan_find_first_spec = tie.close (tie.spec
+    (λ c κs. search rules)
+    (λ c κs. search rules)
+    returns)

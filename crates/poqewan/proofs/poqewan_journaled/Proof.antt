@@ -47,5 +47,10 @@ returns c =
       ),
     )
 
-pub poqewan-journaled-spec : {M : Type 1} → statement M
-poqewan-journaled-spec = tie.close (tie.spec (λ c κs. search rules) (λ c κs. search rules) (λ c. search rules) (λ c. search rules) returns)
+pub poqewan_journaled_spec : {M : Type 1} → statement M
+poqewan_journaled_spec = tie.close (tie.spec
+    (λ c κs. search rules)
+    (λ c κs. search rules)
+    (λ c. search rules)
+    (λ c. search rules)
+    returns)

@@ -40,5 +40,9 @@ returns c =
       ),
     )
 
-pub poqewan-kmp-spec : {M : Type 1} → statement M
-poqewan-kmp-spec = tie.close (tie.spec (λ c κs. search rules) (λ c κs. search rules) (λ c. search rules) returns)
+pub poqewan_kmp_spec : {M : Type 1} → statement M
+poqewan_kmp_spec = tie.close (tie.spec
+    (λ c κs. search rules)
+    (λ c κs. search rules)
+    (λ c. search rules)
+    returns)

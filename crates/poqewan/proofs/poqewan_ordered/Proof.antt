@@ -36,5 +36,9 @@ returns c =
       ),
     )
 
-pub poqewan-ordered-spec : {M : Type 1} → statement M
-poqewan-ordered-spec = tie.close (tie.spec (λ c κs. search rules) (λ c κs. search rules) (λ c. search rules) returns)
+pub poqewan_ordered_spec : {M : Type 1} → statement M
+poqewan_ordered_spec = tie.close (tie.spec
+    (λ c κs. search rules)
+    (λ c κs. search rules)
+    (λ c. search rules)
+    returns)

@@ -10,9 +10,9 @@ use Rattle.poqewan.proofs.poqewan_prefix_lengths.Tie as tie
 returns : tie.Need-returns
 returns c =
     let asked = c.before.before.before in
-    let a = asked.prefix-lengths.result in
-    let S = asked.prefix-lengths.ensures in
-    let C = c.carry-lengths.ensures in
+    let a = asked.prefix_lengths.result in
+    let S = asked.prefix_lengths.ensures in
+    let C = c.carry_lengths.ensures in
     let longest = S.1.1 in
     let whole = longest.1 in
     let ceiling = whole.1 in
@@ -30,5 +30,9 @@ returns c =
       ),
     )
 
-pub poqewan-prefix-lengths-spec : {M : Type 1} → statement M
-poqewan-prefix-lengths-spec = tie.close (tie.spec (λ c κs. search rules) (λ c κs. search rules) (λ c. search rules) returns)
+pub poqewan_prefix_lengths_spec : {M : Type 1} → statement M
+poqewan_prefix_lengths_spec = tie.close (tie.spec
+    (λ c κs. search rules)
+    (λ c κs. search rules)
+    (λ c. search rules)
+    returns)

@@ -36,5 +36,9 @@ returns c =
       ),
     )
 
-pub poqewan-replay-spec : {M : Type 1} → statement M
-poqewan-replay-spec = tie.close (tie.spec (λ c κs. search rules) (λ c κs. search rules) (λ c. search rules) returns)
+pub poqewan_replay_spec : {M : Type 1} → statement M
+poqewan_replay_spec = tie.close (tie.spec
+    (λ c κs. search rules)
+    (λ c κs. search rules)
+    (λ c. search rules)
+    returns)

@@ -10,9 +10,9 @@ use Rattle.poqewan_archives.proofs.poqewan_colussi_record.Tie as tie
 returns : tie.Need-returns
 returns c =
     let at-search = c.before.before.before in
-    let a = at-search.colussi-record.result in
-    let S = at-search.colussi-record.ensures in
-    let C = c.carry-record.ensures in
+    let a = at-search.colussi_record.result in
+    let S = at-search.colussi_record.ensures in
+    let C = c.carry_record.ensures in
     let located = S.1.1 in
     let classed = located.1 in
     let columns = classed.1 in
@@ -37,5 +37,9 @@ returns c =
       ),
     )
 
-pub poqewan-colussi-record-spec : {M : Type 1} → statement M
-poqewan-colussi-record-spec = tie.close (tie.spec (λ c κs. search rules) (λ c κs. search rules) (λ c. search rules) returns)
+pub poqewan_colussi_record_spec : {M : Type 1} → statement M
+poqewan_colussi_record_spec = tie.close (tie.spec
+    (λ c κs. search rules)
+    (λ c κs. search rules)
+    (λ c. search rules)
+    returns)

@@ -10,9 +10,12 @@ use Rattle.poqewan_archives.proofs.poqewan_find_record.Tie as tie
 
 returns : tie.Need-returns
 returns c =
-    let found = c.before.find-record in
-    let C = c.carry-bounds.ensures in
+    let found = c.before.find_record in
+    let C = c.carry_bounds.ensures in
     (C ∙ ap carried_bounds found.ensures.0, λ one. lies_at _ _ (sym found.ensures.0 ∙ bounds_back found.result C one))
 
-pub poqewan-find-record-spec : {M : Type 1} → statement M
-poqewan-find-record-spec = tie.close (tie.spec (λ c κs. search rules) (λ c κs. search rules) returns)
+pub poqewan_find_record_spec : {M : Type 1} → statement M
+poqewan_find_record_spec = tie.close (tie.spec
+    (λ c κs. search rules)
+    (λ c κs. search rules)
+    returns)

@@ -10,7 +10,7 @@ use Rattle.poqewan_archives.proofs.poqewan_read_directory.Tie as tie
 
 returns : tie.Need-returns
 returns c =
-    let C = c.archive-directory.ensures in (
+    let C = c.archive_directory.ensures in (
       C,
       (
         λ none. read_is _ _ (directory_back _ C none),
@@ -18,5 +18,7 @@ returns c =
       ),
     )
 
-pub poqewan-read-directory-spec : {M : Type 1} → statement M
-poqewan-read-directory-spec = tie.close (tie.spec (λ c κs. search rules) returns)
+pub poqewan_read_directory_spec : {M : Type 1} → statement M
+poqewan_read_directory_spec = tie.close (tie.spec
+    (λ c κs. search rules)
+    returns)

@@ -12,7 +12,7 @@ returns c =
     let asked = c.before.before.before in
     let a = asked.correct.result in
     let S = asked.correct.ensures in
-    let C = c.carry-update.ensures in
+    let C = c.carry_update.ensures in
     let corrected = S.1.1 in
     let rest = corrected.1 in
     let classed = rest.1 in
@@ -34,5 +34,9 @@ returns c =
       ),
     )
 
-pub poqewan-correct-spec : {M : Type 1} → statement M
-poqewan-correct-spec = tie.close (tie.spec (λ c κs. search rules) (λ c κs. search rules) (λ c. search rules) returns)
+pub poqewan_correct_spec : {M : Type 1} → statement M
+poqewan_correct_spec = tie.close (tie.spec
+    (λ c κs. search rules)
+    (λ c κs. search rules)
+    (λ c. search rules)
+    returns)

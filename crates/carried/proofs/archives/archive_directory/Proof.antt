@@ -6,23 +6,23 @@ use Rattle.carried.specs.Carried.{carried_directory}
 use Rattle.carried.proofs.archives.archive_directory.Statement.{statement}
 use Rattle.carried.proofs.archives.archive_directory.Tie as tie
 
-cast-t6 : tie.Need-overflow-cast-t6
+cast-t6 : tie.Need-overflow_cast-result
 cast-t6 c =
-    let told = c.before.before in
-    omega (arith, ((told.before.before.read-directory.ensures.1 _).0 told.answer.given.1).few)
+    let told = c.before in
+    omega (arith, ((told.before.read_directory-answer.ensures.1 _).0 told.in-Read.is).few)
 
-returns : tie.Need-returns
+returns : tie.Need-returns-in-Read
 returns c =
-    let told = c.before.before in
-    ap carried_directory (sym told.answer.given.1 ∙ told.before.before.read-directory.ensures.0)
+    let told = c.before in
+    ap carried_directory (sym told.in-Read.is ∙ told.before.read_directory-answer.ensures.0)
 
-returns-2 : tie.Need-returns-2
+returns-2 : tie.Need-returns-in-Refused
 returns-2 c =
-    let told = c.before.before in
-    rw c.number.ensures (ap carried_directory (sym told.answer2.given.1 ∙ told.before.before.read-directory.ensures.0))
+    let told = c.before in
+    rw c.number.ensures (ap carried_directory (sym told.in-Refused.is ∙ told.before.read_directory-answer.ensures.0))
 
-pub archive-directory-spec : {M : Type 1} → statement M
-archive-directory-spec =
+pub archive_directory_spec : {M : Type 1} → statement M
+archive_directory_spec =
     tie.close
     (tie.spec
     (λ c κs. search rules)

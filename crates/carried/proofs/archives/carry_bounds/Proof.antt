@@ -4,8 +4,8 @@ use borrow.Author.Rules.{rules}
 use Rattle.carried.proofs.archives.carry_bounds.Statement.{statement}
 use Rattle.carried.proofs.archives.carry_bounds.Tie as tie
 
-pub carry-bounds-spec : {M : Type 1} → statement M
-carry-bounds-spec =
+pub carry_bounds_spec : {M : Type 1} → statement M
+carry_bounds_spec =
     tie.close
     (tie.spec
     (λ c. search rules)
@@ -13,6 +13,6 @@ carry-bounds-spec =
     (λ c. search rules)
     (λ c κs. search rules)
     (λ c. search rules)
-    (λ c. rw c.before.answer.given.1 refl)
-    (λ c. rw c.enum_told.given.1 refl)
-    (λ c. rw (c.before.before.answer2.given.1, c.number.ensures) refl))
+    (λ c. rw c.in-At.is refl)
+    (λ c. rw c.in-NoSuchRecord.is refl)
+    (λ c. rw (c.before.in-Refused.is, c.number.ensures) refl))

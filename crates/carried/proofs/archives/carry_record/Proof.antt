@@ -3,8 +3,8 @@ use borrow.Author.Rules.{rules}
 use Rattle.carried.proofs.archives.carry_record.Statement.{statement}
 use Rattle.carried.proofs.archives.carry_record.Tie as tie
 
-pub carry-record-spec : {M : Type 1} → statement M
-carry-record-spec =
+pub carry_record_spec : {M : Type 1} → statement M
+carry_record_spec =
     tie.close
     (tie.spec
     (λ c. search rules)
@@ -15,6 +15,6 @@ carry-record-spec =
     (λ c κs. search rules)
     (λ c. search rules)
     (λ c κs. search rules)
-    (λ c. rw c.before.before.answer.given.1 c.carry-report.ensures)
-    (λ c. rw c.before.enum_told.given.1 c.without-search.ensures)
-    (λ c. rw (c.before.before.before.answer2.given.1, ← c.before.number.ensures) c.without-search2.ensures))
+    (λ c. rw c.before.in-Ran.is c.carry_report.ensures)
+    (λ c. rw c.before.in-NoSuchRecord.is c.without_search.ensures)
+    (λ c. rw (c.before.before.in-Refused.is, ← c.before.number.ensures) c.without_search-in-Refused.ensures))

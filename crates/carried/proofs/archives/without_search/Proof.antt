@@ -3,5 +3,6 @@ use mathlib.Core.Path.{refl}
 use Rattle.carried.proofs.archives.without_search.Statement.{statement}
 use Rattle.carried.proofs.archives.without_search.Tie as tie
 
-pub without-search-spec : {M : Type 1} → statement M
-without-search-spec = tie.close (tie.spec (λ c. refl))
+pub without_search_spec : {M : Type 1} → statement M
+without_search_spec = tie.close (tie.spec
+    (λ c. refl))

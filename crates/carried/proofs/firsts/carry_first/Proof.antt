@@ -4,8 +4,8 @@ use borrow.Author.Rules.{rules}
 use Rattle.carried.proofs.firsts.carry_first.Statement.{statement}
 use Rattle.carried.proofs.firsts.carry_first.Tie as tie
 
-pub carry-first-spec : {M : Type 1} → statement M
-carry-first-spec =
+pub carry_first_spec : {M : Type 1} → statement M
+carry_first_spec =
     tie.close
     (tie.spec
     (λ c. search rules)
@@ -13,6 +13,6 @@ carry-first-spec =
     (λ c. search rules)
     (λ c κs. search rules)
     (λ c. search rules)
-    (λ c. rw c.before.answer.given.1 refl)
-    (λ c. rw c.before.answer2.given.1 refl)
-    (λ c. rw (c.before.before.answer3.given.1, c.number.ensures) refl))
+    (λ c. rw c.in-At.is refl)
+    (λ c. rw c.in-Absent.is refl)
+    (λ c. rw (c.before.in-Refused.is, c.number.ensures) refl))

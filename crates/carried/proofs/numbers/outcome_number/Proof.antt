@@ -4,13 +4,13 @@ use borrow.Author.Rules.{rules}
 use Rattle.carried.proofs.numbers.outcome_number.Statement.{statement}
 use Rattle.carried.proofs.numbers.outcome_number.Tie as tie
 
-pub outcome-number-spec : {M : Type 1} → statement M
-outcome-number-spec =
+pub outcome_number_spec : {M : Type 1} → statement M
+outcome_number_spec =
     tie.close
     (tie.spec
     (λ c. search rules)
     (λ c. search rules)
     (λ c κs. search rules)
     (λ c. search rules)
-    (λ c. rw c.enum_told.given.1 refl)
-    (λ c. rw c.before.before.outcome.given.1 c.number.ensures))
+    (λ c. rw c.in-Ready.is refl)
+    (λ c. rw c.before.in-Refused.is c.number.ensures))

@@ -4,8 +4,8 @@ use borrow.Author.Rules.{rules}
 use Rattle.carried.proofs.reports.carry.Statement.{statement}
 use Rattle.carried.proofs.reports.carry.Tie as tie
 
-pub carry-spec : {M : Type 1} → statement M
-carry-spec =
+pub carry_spec : {M : Type 1} → statement M
+carry_spec =
     tie.close
     (tie.spec
     (λ c. search rules)
@@ -13,5 +13,5 @@ carry-spec =
     (λ c. search rules)
     (λ c κs. search rules)
     (λ c. search rules)
-    (λ c. rw c.before.before.answer.given.1 c.carry-report.ensures)
-    (λ c. rw (c.before.before.answer2.given.1, c.number.ensures) refl))
+    (λ c. rw c.before.in-Ran.is c.carry_report.ensures)
+    (λ c. rw (c.before.in-Refused.is, c.number.ensures) refl))

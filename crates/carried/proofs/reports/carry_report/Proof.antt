@@ -4,6 +4,9 @@ use borrow.Author.Rules.{rules}
 use Rattle.carried.proofs.reports.carry_report.Statement.{statement}
 use Rattle.carried.proofs.reports.carry_report.Tie as tie
 
-pub carry-report-spec : {M : Type 1} → statement M
-carry-report-spec =
-    tie.close (tie.spec (λ c κs. search rules) (λ c κs. search rules) (λ c. rw (c.before.ending-number.ensures, c.ending-window.ensures) refl))
+pub carry_report_spec : {M : Type 1} → statement M
+carry_report_spec =
+    tie.close (tie.spec
+    (λ c κs. search rules)
+    (λ c κs. search rules)
+    (λ c. rw (c.before.ending_number.ensures, c.ending_window.ensures) refl))
