@@ -4,9 +4,7 @@ use mathlib.Core.Path.{◌≡◌, refl, sym, ap, ◌∙◌}
 use mathlib.Core.Bool.{Bool, true, false}
 use mathlib.Core.List.{List}
 use lib.ListN.{length}
-use borrow.Author.Tests.{le-leb}
-use Rattle.admission.specs.Admitted.{longest_text, judged, admitted}
-use Rattle.admission.specs.declared.Admission.{Admission}
+use Rattle.admission.specs.Admitted.{judged, admitted}
 use Rattle.admission.specs.declared.Admission.TheVariants as door
 use Rattle.admission.proofs.Admitting.{false_pattern, lets_in}
 use Rattle.checked.specs.Check.{is_prepared}
@@ -23,7 +21,6 @@ use Rattle.refusal.specs.Unless.{unless}
 use Rattle.refusal.specs.declared.Refusal.{Refusal}
 use Rattle.refusal.specs.declared.Refusal.TheVariants.{FalsePattern}
 use Rattle.rules.specs.Rules.{End, Search}
-use Rattle.rules.specs.Report.{report_of, filled}
 use Rattle.rules.specs.declared.Report.{Report}
 use Rattle.search.specs.Answer as searching
 use Rattle.search.specs.Promise as promises
@@ -32,7 +29,7 @@ use Rattle.search.specs.declared.SearchAnswer.TheVariants as searches
 use Rattle.archive.specs.Answer.{answered, listed, answer_by, list_by, plain_answer_by, plain_list_by, of_search}
 use Rattle.archive.specs.Promise.{IfRan}
 use Rattle.archive.specs.declared.RecordAnswer.{RecordAnswer}
-use Rattle.archive.specs.declared.RecordAnswer.TheVariants.{Ran, NoSuchRecord, Refused}
+use Rattle.archive.specs.declared.RecordAnswer.TheVariants.{NoSuchRecord, Refused}
 
 -- An answer of the search of the record's bytes.
 of_search_lem : (P : Report → Type 0) (s : SearchAnswer) → promises.IfRan P s → IfRan P (of_search s)

@@ -7,12 +7,10 @@ use Rattle.classes.specs.Classes.{identity}
 use Rattle.directory.specs.Archive.{record_of}
 use Rattle.pattern.specs.Letters.{own_bytes, word_of, text_of}
 use Rattle.pattern.specs.declared.Pattern.{Pattern}
-use Rattle.rules.specs.Rules.{Search}
 use Rattle.rules.specs.Colussi.{colussi}
 use Rattle.rules.specs.Kmp.{kmp}
 use Rattle.rules.specs.Report.{Columns}
 use Rattle.search.specs.Promise.{Located, ListedBy, UnderCeiling, UnderKmpCeiling, AsColussi, NoZeroCovered}
-use Rattle.search.proofs.Answers as searching
 use Rattle.search.proofs.Promises.{colussi_promises, kmp_promises}
 use Rattle.archive.specs.Answer.{answer_by, list_by, plain_answer_by, plain_list_by}
 use Rattle.archive.specs.Promise.{IfRan}

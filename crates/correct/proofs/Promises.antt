@@ -28,7 +28,6 @@ use Rattle.update.proofs.Correcting.{corrected, full_list}
 use Rattle.correct.specs.Answer.{admitted_list, with_room, answered, listed, answer_of, list_of, plain_answer_of, plain_list_of}
 use Rattle.correct.specs.Promise.{IfUpdated, CoveredBy, StaysFull, NoZeroNear}
 use Rattle.correct.specs.declared.CorrectAnswer.{CorrectAnswer}
-use Rattle.correct.specs.declared.CorrectAnswer.TheVariants.{Refused}
 use Rattle.correct.proofs.Answers.{answered_in, answered_not, listed_in, Answers, new_of, before20, tested, as_answer, as_list}
 
 -- Texts that differ at most at a place are read so through classes.

@@ -21,7 +21,7 @@ use Rattle.pattern.specs.declared.Pattern.{Pattern}
 use Rattle.pattern.proofs.Letters.{length_text}
 use Rattle.refusal.specs.declared.Refusal.{Refusal}
 use Rattle.rules.specs.Colussi.{colussi}
-use Rattle.rules.specs.Occurs.{occurs, occurrences_below, occurrences}
+use Rattle.rules.specs.Occurs.{occurs, occurrences_below}
 use Rattle.rules.specs.Rules.{no_cap}
 use Rattle.rules.specs.declared.Ending.{Ending}
 use Rattle.rules.specs.declared.Ending.TheVariants.{Done, Spent, Full}

@@ -1,17 +1,16 @@
 -- The record that is looked for: what is answered, and where it lies. Assumes nothing.
-use Prim.Native.Nat.{ℕ, ◌+◌, ◌-◌, ◌*◌, ◌≤◌, ◌<◌}
-use mathlib.Core.Path.{◌≡◌, refl, sym, ap, ◌∙◌}
+use Prim.Native.Nat.{ℕ, ◌+◌, ◌-◌, ◌≤◌, ◌<◌}
+use mathlib.Core.Path.{◌≡◌, refl, sym}
 use mathlib.Core.Logic.{⊎_elim}
 use mathlib.Core.List.{List}
 use native.Mathlib.Omega.{arith}
-use lib.ListN.{length, take, drop, length-drop}
+use lib.ListN.{length, drop, length-drop}
 use lib.Seq.{length-take-le}
 use borrow.Author.Tests.{lt-ltb, le-ltb}
-use Rattle.admission.specs.Admitted.{longest_text}
 use Rattle.refusal.specs.declared.Refusal.{Refusal}
 use Rattle.words.proofs.Cases.{less_or}
 use Rattle.directory.specs.Archive.{directory_start, start_of, length_of, end_of, directory_of, bounds_of, record_of, bounds_by}
-use Rattle.directory.specs.Promise.{IsArchive, IfAt, Lies}
+use Rattle.directory.specs.Promise.{IfAt, Lies}
 use Rattle.directory.specs.declared.Bounds.{Bounds}
 use Rattle.directory.specs.declared.BoundsAnswer.{BoundsAnswer}
 use Rattle.directory.specs.declared.BoundsAnswer.TheVariants.{At, NoSuchRecord}

@@ -1,14 +1,12 @@
 -- Calls made in turn, one more at a time. Assumes nothing.
-use Prim.Native.Nat.{ℕ, suc, ◌+◌, ◌-◌, ◌*◌, ◌≤◌}
+use Prim.Native.Nat.{ℕ, ◌+◌, ◌*◌, ◌≤◌}
 use mathlib.Core.Path.{◌≡◌, refl, sym, ap, ◌∙◌}
 use mathlib.Core.List.{List, [], ◌∷◌, ◌++◌, append_assoc, append-nil}
 use native.Mathlib.Nat.{add-zero, zero-add, add_assoc, mul-zero, mul-suc}
 use native.Mathlib.Omega.{arith}
-use lib.ListN.{length, take, drop, length-append, length-drop, take-append-drop, drop_of_length-le}
-use lib.Seq.{length-take-le, take_all, take-append-add, drop-append-add, take-append_seam, drop-append_seam, drop-drop}
-use Rattle.rows.specs.Row.{starting_with}
+use lib.ListN.{length, take, drop, length-append, length-drop, take-append-drop}
+use lib.Seq.{length-take-le, take-append-add, drop-append-add}
 use Rattle.rows.specs.InTurn.{Left, Call, then, in_turn}
-use Rattle.rows.proofs.Starting.{starts}
 
 -- ---- Calls
 

@@ -20,7 +20,7 @@ use Rattle.rules.specs.Internal.Passing.{Established}
 use Rattle.rules.specs.declared.Ending.{Ending}
 use Rattle.rules.specs.declared.Ending.TheVariants.{Done, Spent, Full}
 use Rattle.rules.proofs.Rules.{edge_kept}
-use Rattle.rules.proofs.Method.{Left, Method, Bound, Kept-at-end, kept, Finds, finds}
+use Rattle.rules.proofs.Method.{Left, Method, Bound, kept, Finds, finds}
 use Rattle.rules.proofs.Occurs.{None}
 use Rattle.rules.proofs.Excluded.{Same, none_before, none_before_period}
 

@@ -9,7 +9,7 @@ use Rattle.lists.specs.Lists.{merged, Splits}
 use Rattle.lists.proofs.Keeping.{keeps_all}
 use Rattle.lists.proofs.Bounds.{splits_order, taken_below, dropped_from, keep_outside}
 use Rattle.lists.proofs.Merging.{merged_between, merged_none}
-use Rattle.update.specs.Update.{covers, covering, updated}
+use Rattle.update.specs.Update.{covering, updated}
 use Rattle.update.proofs.Covering.{apart_of, first_window, past_window, windows_order, between_of, outside, none_covers, covering_ascends, covering_is}
 
 module _ (w t : List ℕ) (place : ℕ) (l : List ℕ) where

@@ -1,7 +1,5 @@
 -- `admit` meets its contract: its tests are those of `judged`, in the same order. Assumes nothing.
 use mathlib.Core.Path.{sym}
-use borrow.Author.Rules.{rules}
-use borrow.Author.Tests.{not-true, not-false}
 use Rattle.admission.proofs.Admitting.{false_pattern, long_text, lets_in, answers}
 use Rattle.admission.proofs.admit.Statement.{statement}
 use Rattle.admission.proofs.admit.Tie as tie

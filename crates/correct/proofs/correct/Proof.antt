@@ -7,7 +7,6 @@ use native.Mathlib.Omega.{arith}
 use lib.ListN.{length, take, replicate}
 use lib.Seq.{length-take-le}
 use borrow.Author.Rules.{rules}
-use borrow.Author.Tests.{not-true, not-false}
 use Rattle.admission.specs.Admitted.{longest_text}
 use Rattle.lists.specs.Lists.{in_order, Ascending}
 use Rattle.lists.proofs.Ascending.{in_order_is}

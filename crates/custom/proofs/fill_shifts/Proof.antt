@@ -2,7 +2,6 @@
 use mathlib.Core.Path.{sym, ◌∙◌}
 use lib.ListN.{length}
 use borrow.Author.Rules.{rules}
-use borrow.Author.Tests.{not-true, not-false}
 use Rattle.custom.specs.Order.{Arrangement}
 use Rattle.custom.proofs.Trying.{none_passed}
 use Rattle.custom.proofs.Filling.{no_letter, too_many, no_room, not_arranged, table_fits}

@@ -1,11 +1,10 @@
 -- `directory::read_directory` meets its contract: its tests are those of `directory_of`, in the same order. Assumes nothing.
-use Prim.Native.Nat.{ℕ, ◌-◌}
+use Prim.Native.Nat.{ℕ}
 use mathlib.Core.Path.{◌≡◌, sym, ap, ◌∙◌}
 use mathlib.Core.Bool.{true}
 use mathlib.Core.List.{List}
 use native.Mathlib.Omega.{arith}
 use borrow.Author.Rules.{rules}
-use borrow.Author.Tests.{not-true, not-false}
 use Rattle.directory.specs.Archive.{directory_start, record_count, closes, touch, directory_of}
 use Rattle.directory.specs.declared.DirectoryAnswer.TheVariants.{Read}
 use Rattle.directory.proofs.Reading.{from_9, long, short, unclosed, many, elsewhere, past_8, apart, whole, answers}

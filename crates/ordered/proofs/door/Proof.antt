@@ -1,7 +1,6 @@
 -- `ordered::door` meets its contract. Assumes nothing.
 use mathlib.Core.Path.{sym, ◌∙◌}
 use borrow.Author.Rules.{rules}
-use borrow.Author.Tests.{not-true, not-false}
 use Rattle.ordered.proofs.Admitting.{false_pattern, false_order, as_admitted}
 use Rattle.ordered.proofs.door.Statement.{statement}
 use Rattle.ordered.proofs.door.Tie as tie

@@ -1,5 +1,5 @@
 -- `carried::archive_directory` meets its contract: each arm carries its answer, and few records are a number that fits. Assumes nothing.
-use mathlib.Core.Path.{refl, sym, ◌∙◌, ap}
+use mathlib.Core.Path.{sym, ◌∙◌, ap}
 use native.Mathlib.Omega.{arith}
 use borrow.Author.Rules.{rules}
 use Rattle.carried.specs.Carried.{carried_directory}

@@ -1,5 +1,4 @@
 -- `directory::read::closes` meets its contract: a byte that differs fails the test. Assumes nothing.
-use Prim.Native.Nat.{◌-◌}
 use mathlib.Core.Path.{refl}
 use borrow.Author.Rules.{rules}
 use borrow.Author.Tests.{eq-eqb, ne_eqb}

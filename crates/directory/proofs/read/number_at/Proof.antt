@@ -1,5 +1,4 @@
 -- `directory::read::number_at` meets its contract: four bytes, each below 256, make the number. Assumes nothing.
-use Prim.Native.Nat.{◌-◌}
 use borrow.Author.Rules.{rules}
 use Rattle.directory.specs.Archive.{number_at}
 use Rattle.directory.proofs.read.number_at.Statement.{statement}

@@ -5,7 +5,7 @@ use mathlib.Core.Path.{sym, ◌∙◌}
 use native.Mathlib.Omega.{arith}
 use lib.ListN.{length}
 use borrow.Author.Rules.{rules}
-use borrow.Author.Tests.{eqb-true, eqb-false, not-true, not-false}
+use borrow.Author.Tests.{eqb-true, eqb-false}
 use Rattle.words.specs.Tables.{hmax}
 use Rattle.hmax.proofs.Hmaxes.{ends_where_differ, leads_on, ends_with_word}
 use Rattle.hmax.proofs.steps.extend.Statement.{statement}
