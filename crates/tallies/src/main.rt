@@ -4,9 +4,8 @@
 
 mod sets;
 
-use libc::STDOUT_FILENO;
 use ones::{BITS, PLACES, WORDS};
-use std::num::wrapping_add_u64;
+use std::io;
 
 // How many places are asked of a set: 0 to PLACES + 1, and two far past the last.
 const ASKED: usize = PLACES + 4;
@@ -27,9 +26,9 @@ const FACTOR: u64 = 31;
 
 const PRIME: u64 = 1000003;
 
-fn say(words: &[u8], n: u64) {
-    io::write_all(STDOUT_FILENO, words);
-    io::print_decimal(STDOUT_FILENO, n);
+fn say(rt: &impl Print, words: &[u8], n: u64) -> io::Result<()> {
+    rt.write_all(words)?;
+    print!(rt; "{n}")
 }
 
 #[derive(Clone, Copy)]
@@ -49,10 +48,10 @@ impl Tally {
     }
 
     fn with(mut self, answer: u64, counted: u64) -> Self {
-        self.answers = wrapping_add_u64(self.answers, 1);
-        self.checksum = wrapping_add_u64(self.checksum % PRIME * FACTOR, answer) % PRIME;
+        self.answers = self.answers.wrapping_add(1);
+        self.checksum = (self.checksum % PRIME * FACTOR).wrapping_add(answer) % PRIME;
         if answer != counted {
-            self.differ = wrapping_add_u64(self.differ, 1);
+            self.differ = self.differ.wrapping_add(1);
         }
         self
     }
@@ -61,12 +60,10 @@ impl Tally {
 // The marks below a place, bit by bit.
 fn counted(marks: &[u64; WORDS], p: usize) -> u64 {
     let mut n: u64 = 0;
-    let mut q: usize = 0;
-    while q < PLACES {
+    for q in 0..PLACES {
         if q < p {
-            n = wrapping_add_u64(n, marks[q / BITS] >> (q % BITS) & 1);
+            n = n.wrapping_add(marks[q / BITS] >> (q % BITS) & 1);
         }
-        q += 1;
     }
     n
 }
@@ -82,62 +79,61 @@ fn asked(i: usize) -> usize {
 fn try_set(before: Tally, marks: &[u64; WORDS]) -> Tally {
     let whole = ones::whole_words(marks);
     let mut tally = before;
-    let mut i: usize = 0;
-    while i < ASKED {
+    for i in 0..ASKED {
         let p = asked(i);
         let answer = ones::ones_below(marks, &whole, p) as u64;
         tally = tally.with(answer, counted(marks, p));
-        i += 1;
     }
     tally
 }
 
 // A set's kind and place, how many marks it has, and the checksum of its answers alone.
-fn show_set(kind: &[u8], place: usize, marks: &[u64; WORDS]) {
+fn show_set(rt: &impl Print, kind: &[u8], place: usize, marks: &[u64; WORDS]) -> io::Result<()> {
     let all = ones::ones_below(marks, &ones::whole_words(marks), PLACES);
     let tally = try_set(Tally::none(), marks);
-    say(kind, place as u64);
-    say(b": ", all as u64);
-    say(b", checksum ", tally.checksum);
-    io::write_all(STDOUT_FILENO, b"\n");
+    say(rt, kind, place as u64)?;
+    say(rt, b": ", all as u64)?;
+    say(rt, b", checksum ", tally.checksum)?;
+    rt.write_all(b"\n")
 }
 
-fn try_extremes(before: Tally, alone: bool, kind: &[u8], places: &[usize]) -> Tally {
+fn try_extremes(
+    rt: &impl Print,
+    before: Tally,
+    alone: bool,
+    kind: &[u8],
+    places: &[usize],
+) -> io::Result<Tally> {
     let mut tally = before;
-    let mut i: usize = 0;
-    while i < places.len() {
-        let place = places[i];
+    for &place in places {
         let marks = sets::extreme(alone, place);
-        show_set(kind, place, &marks);
+        show_set(rt, kind, place, &marks)?;
         tally = try_set(tally, &marks);
-        i += 1;
     }
-    tally
+    Ok(tally)
 }
 
 // Each pair is a draw, and the sparser set of the marks that it has in common with the next draw.
 fn try_random(before: Tally) -> Tally {
     let mut tally = before;
     let mut x = SEED;
-    let mut pair: u64 = 0;
-    while pair < PAIRS {
+    for _ in 0..PAIRS {
         let one = sets::draw(x);
         let other = sets::draw(one[3]);
         tally = try_set(tally, &one);
         tally = try_set(tally, &sets::common(&one, &other));
         x = other[3];
-        pair += 1;
     }
     tally
 }
 
-fn main() {
-    let below = try_extremes(Tally::none(), false, b"below ", &ENDS);
-    let only = try_extremes(below, true, b"only ", &ALONE);
+fn main(rt: HostRuntime) -> io::Result<()> {
+    let below = try_extremes(&rt, Tally::none(), false, b"below ", &ENDS)?;
+    let only = try_extremes(&rt, below, true, b"only ", &ALONE)?;
     let all = try_random(only);
-    say(b"sets ", all.answers / ASKED as u64);
-    say(b"\nanswers ", all.answers);
-    say(b"\nchecksum ", all.checksum);
-    say(b"\n", all.differ);
-    io::write_all(STDOUT_FILENO, b" differ\n");
+    say(&rt, b"sets ", all.answers / ASKED as u64)?;
+    say(&rt, b"\nanswers ", all.answers)?;
+    say(&rt, b"\nchecksum ", all.checksum)?;
+    say(&rt, b"\n", all.differ)?;
+    rt.write_all(b" differ\n")
 }

@@ -4,13 +4,11 @@ use ones::{BITS, PLACES, WORDS};
 // The place alone, or all below it.
 pub fn extreme(alone: bool, place: usize) -> [u64; WORDS] {
     let mut marks = [0u64; WORDS];
-    let mut q: usize = 0;
-    while q < PLACES {
+    for q in 0..PLACES {
         let marked = if alone { q == place } else { q < place };
         if marked {
             marks[q / BITS] |= 1 << (q % BITS);
         }
-        q += 1;
     }
     marks
 }

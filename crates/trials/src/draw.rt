@@ -3,7 +3,6 @@ ghost use Rattle.std.specs.Prelude.{◌<◌, ◌≤◌, length};
 
 use crate::judge::LIST;
 use pattern::LONGEST_PATTERN;
-use std::num::wrapping_add_u64;
 
 // 2^32, and two odd numbers below it.
 const HALF: u64 = 4294967296;
@@ -33,7 +32,7 @@ const TEXT_PIECE: u64 = 5;
 
 // Number i of a stream.
 pub fn number(stream: u64, i: u64) -> u64 {
-    let a = wrapping_add_u64(stream, i) % HALF * FIRST;
+    let a = stream.wrapping_add(i) % HALF * FIRST;
     let b = (a ^ (a >> 32)) % HALF * SECOND;
     b ^ (b >> 29)
 }
@@ -53,12 +52,10 @@ fn size(stream: u64, i: u64) -> usize
 fn fill(word: &[u8], piece: usize, mask: u8, stream: u64, out: &mut [u8])
     requires { (0 < length word.now) × (0 < piece) }
 {
-    let mut i: usize = 0;
-    while i < out.len() {
+    for (i, byte) in out.iter_mut().enumerate() {
         let start = number(stream, (i / piece) as u64);
-        let at = wrapping_add_u64(start, i as u64) % word.len() as u64;
-        out[i] = word[at as usize] ^ ((start / HALF % 256) as u8 & mask);
-        i += 1;
+        let at = start.wrapping_add(i as u64) % word.len() as u64;
+        *byte = word[at as usize] ^ ((start / HALF % 256) as u8 & mask);
     }
 }
 

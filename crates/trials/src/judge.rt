@@ -23,7 +23,7 @@ fn occurs(bytes: &[u8], text: &[u8], b: usize) -> bool {
     if text.len() - m < b {
         return false;
     }
-    check::same(&text[b..b + m], bytes)
+    &text[b..b + m] == bytes
 }
 
 // The naive search: whether a list holds the occurrences from its start on, and is unchanged after them.

@@ -8,12 +8,11 @@ mod judge;
 ghost use Rattle.std.specs.Prelude.{◌<◌, ◌≤◌, length};
 
 use judge::{DONE, LIST, NEITHER, TEXT, UNWRITTEN};
-use libc::STDOUT_FILENO;
 use pattern::{LONGEST_PATTERN, Pattern};
 use preparation::SCRATCH;
 use rules::NO_CAP;
 use search::{Ending, SearchAnswer};
-use std::num::{wrapping_add_u64, wrapping_sub_u64};
+use std::io;
 
 const CASES: u64 = 4000;
 // The method of a search.
@@ -21,9 +20,9 @@ const COLUSSI: bool = false;
 
 const KMP: bool = true;
 
-fn say(words: &[u8], n: u64) {
-    io::write_all(STDOUT_FILENO, words);
-    io::print_decimal(STDOUT_FILENO, n);
+fn say(rt: &impl Print, words: &[u8], n: u64) -> io::Result<()> {
+    rt.write_all(words)?;
+    print!(rt; "{n}")
 }
 
 // Searches that are right.
@@ -46,10 +45,10 @@ impl Tally {
     }
 
     fn with(mut self, more: Tally) -> Self {
-        self.searches = wrapping_add_u64(self.searches, more.searches);
-        self.places = wrapping_add_u64(self.places, more.places);
-        self.comparisons = wrapping_add_u64(self.comparisons, more.comparisons);
-        self.noholes = wrapping_add_u64(self.noholes, more.noholes);
+        self.searches = self.searches.wrapping_add(more.searches);
+        self.places = self.places.wrapping_add(more.places);
+        self.comparisons = self.comparisons.wrapping_add(more.comparisons);
+        self.noholes = self.noholes.wrapping_add(more.noholes);
         self
     }
 }
@@ -142,46 +141,45 @@ fn run_case(by_kmp: bool, case: u64) -> Tally {
     try_text(by_kmp, stream, &bytes[0..m])
 }
 
-fn show(name: &[u8], tally: Tally) {
-    say(name, tally.searches);
-    say(b", places ", tally.places);
-    say(b", comparisons ", tally.comparisons);
-    say(b", at noholes ", tally.noholes);
+fn show(rt: &impl Print, name: &[u8], tally: Tally) -> io::Result<()> {
+    say(rt, name, tally.searches)?;
+    say(rt, b", places ", tally.places)?;
+    say(rt, b", comparisons ", tally.comparisons)?;
+    say(rt, b", at noholes ", tally.noholes)
 }
 
 // Shows the tally of all cases, and hands back how many searches are not right.
-fn run_cases(by_kmp: bool, name: &[u8]) -> u64 {
+fn run_cases(rt: &impl Print, by_kmp: bool, name: &[u8]) -> io::Result<u64> {
     let mut tally = Tally::none();
-    let mut case: u64 = 0;
-    while case < CASES {
+    for case in 0..CASES {
         tally = tally.with(run_case(by_kmp, case));
-        case += 1;
     }
-    show(name, tally);
-    wrapping_sub_u64(CASES, tally.searches)
+    show(rt, name, tally)?;
+    Ok(CASES.wrapping_sub(tally.searches))
 }
 
-fn show_spent(run: Run) {
-    say(b"aba in aba, cap 0: spent at ", run.end);
-    say(b", count ", run.count);
-    say(b", places ", run.written);
+fn show_spent(rt: &impl Print, run: Run) -> io::Result<()> {
+    say(rt, b"aba in aba, cap 0: spent at ", run.end)?;
+    say(rt, b", count ", run.count)?;
+    say(rt, b", places ", run.written)
 }
 
 // The worked record of document 01 that is not starred.
-fn show_record() {
+fn show_record(rt: &impl Print) -> io::Result<()> {
     let text = b"aba";
     let mut positions = [UNWRITTEN; LIST];
     let record = run_by(COLUSSI, text, text, 0, &mut positions);
     if record.end < DONE {
-        show_spent(record);
+        show_spent(rt, record)?;
     }
+    Ok(())
 }
 
-fn main() {
-    show_record();
-    say(b"\ncases ", CASES);
-    let colussi = run_cases(COLUSSI, b"\nColussi: searches ");
-    let kmp = run_cases(KMP, b"\nKMP: searches ");
-    say(b"\n", wrapping_add_u64(colussi, kmp));
-    io::write_all(STDOUT_FILENO, b" differ\n");
+fn main(rt: HostRuntime) -> io::Result<()> {
+    show_record(&rt)?;
+    say(&rt, b"\ncases ", CASES)?;
+    let colussi = run_cases(&rt, COLUSSI, b"\nColussi: searches ")?;
+    let kmp = run_cases(&rt, KMP, b"\nKMP: searches ")?;
+    say(&rt, b"\n", colussi.wrapping_add(kmp))?;
+    rt.write_all(b" differ\n")
 }
