@@ -1,5 +1,5 @@
 -- `poqewan_archives::poqewan_read_directory` meets its contract: the directory that is carried is that of the archive. Assumes nothing.
-use mathlib.Core.Path.{refl, ap, ◌∙◌}
+use mathlib.Core.Path.{ap, ◌∙◌}
 use borrow.Author.Rules.{rules}
 use Rattle.carried.specs.Carried.{carried_directory}
 use Rattle.carried.specs.declared.ArchiveDirectory.{ArchiveDirectory}
