@@ -124,7 +124,7 @@ carried_record (records.Ran r) = carried_report r
 carried_record records.NoSuchRecord = unsearched 0 no_such_record
 carried_record (records.Refused why) = unsearched (number_of why) 0
 
--- A search ran: it was not refused, and there was a record. Its report is read back by reportIn.
+-- A search ran: it was not refused, and there was a record. Its report is read back by report_in.
 abbrev pub Searched : SearchReport → Type 0
 Searched r = (r.refusal ≡ 0) × (r.ending < no_such_record)
 

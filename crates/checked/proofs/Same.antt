@@ -1,4 +1,4 @@
--- same_list and samePattern decide equality. Assumes nothing.
+-- same_list and same_pattern decide equality. Assumes nothing.
 use Prim.Native.Nat.{ℕ, suc, ◌+◌, ◌≤◌, ◌<◌}
 use mathlib.Core.Path.{◌≡◌, refl, sym, ap, ◌∙◌}
 use mathlib.Core.Logic.{◌↔◌, ⊎_elim}

@@ -44,7 +44,7 @@ fn same_marks(a: &[u64; 4], b: &[u64; 4]) -> bool
     (a[0] == b[0]) & (a[1] == b[1]) & (a[2] == b[2]) & (a[3] == b[3])
 }
 
-// Whether no field but the classes differs. The answers are joined in the order of sameTables.
+// Whether no field but the classes differs. The answers are joined in the order of same_tables.
 pub fn same_tables(a: Pattern, b: Pattern) -> bool
     ensures { result ≡ same_tables a b }
 {

@@ -44,7 +44,7 @@ unfoldable pub search_lines : End → List ℕ
 unfolding report_lines
 search_lines s = report_lines s.ending (length s.last.made) s.last.found
 
--- What is printed for an input: its refusal, or the lines of the search in Colussi's order, with the cap noCap and a list of listSize entries.
+-- What is printed for an input: its refusal, or the lines of the search in Colussi's order, with the cap no_cap and a list of list_size entries.
 unfoldable pub printed : List ℕ → List ℕ
 unfolding parsed refused_line search_lines colussi
 printed input = elim (parsed input) [

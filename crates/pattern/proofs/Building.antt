@@ -162,7 +162,7 @@ module _ (w c s : List ℕ) where
         (rw (le-leb 1 (length w) some, le-leb (length w) longest_pattern short, eq-eqb (length c) class_count size, lt-leb scratch_size (length s) l) refl)
         answer
 
-  -- Past its first scratchSize numbers, a scratch is always kept.
+  -- Past its first scratch_size numbers, a scratch is always kept.
   pub build_kept : {t : List ℕ} → t ≡ scratch_with w c s → KeptFrom scratch_size s t
   unfolding buildable tables_after
   build_kept e = rw e (⊎_elim

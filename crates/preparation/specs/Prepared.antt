@@ -23,7 +23,7 @@ prepared_with o w classes l = elim o [
   | Refused why ↦ unprepared why
 ]
 
--- What a scratch then holds: zeros in its first scratchSize numbers after success, and what was lent after a refusal.
+-- What a scratch then holds: zeros in its first scratch_size numbers after success, and what was lent after a refusal.
 unfoldable pub scratch_by : Outcome → List ℕ → List ℕ
 scratch_by o s = elim o [ Ready ↦ replicate scratch_size 0 ++ drop scratch_size s | Refused why ↦ s ]
 
@@ -46,7 +46,7 @@ unfoldable pub plain_scratch : List ℕ → List ℕ → List ℕ
 unfolding bytes_tested scratch_tested scratch_by
 plain_scratch w s = scratch_by (bytes_tested w (scratch_tested (length s) Ready)) s
 
--- In plain terms, what success does to a scratch: its first scratchSize numbers are 0, and the rest as it was lent.
+-- In plain terms, what success does to a scratch: its first scratch_size numbers are 0, and the rest as it was lent.
 pub record Cleared (lent after : List ℕ) : Type 0 where
   pub zeros : take scratch_size after ≡ replicate scratch_size 0
   pub rest : drop scratch_size after ≡ drop scratch_size lent

@@ -2,7 +2,7 @@
 use mathlib.Core.Path.{◌≡◌}
 use native.Mathlib.Omega.{arith}
 use Rattle.refusal.specs.declared.Refusal.{Refusal}
-use Rattle.refusal.specs.declared.Refusal.TheVariants.{NoPattern, LongPattern, ShortScratch, FalsePattern, LongText, ShortInput, NoTrailer, FalseDirectory, RecordsApart, ZeroInPattern, ShortLengths, CutBatch, ShortRows, ClassesNot256, ZeroClassShared, FalseOrder, ShortJournal, FalseJournal, FalseList, ShortList}
+use Rattle.refusal.specs.declared.Refusal.TheVariants.{NoPattern, LongPattern, ShortScratch, FalsePattern, LongText, ShortInput, NoTrailer, FalseDirectory, RecordsApart, ZeroInPattern, ShortLengths, ClassesNot256, ZeroClassShared, FalseOrder, ShortJournal, FalseJournal, FalseList, ShortList}
 use Rattle.refusal.specs.Numbers.{number_of}
 
 pub number_not_0 : (why : Refusal) → number_of why ≡ 0 → ⊥
@@ -17,8 +17,6 @@ number_not_0 FalseDirectory e = omega arith
 number_not_0 RecordsApart e = omega arith
 number_not_0 ZeroInPattern e = omega arith
 number_not_0 ShortLengths e = omega arith
-number_not_0 CutBatch e = omega arith
-number_not_0 ShortRows e = omega arith
 number_not_0 ClassesNot256 e = omega arith
 number_not_0 ZeroClassShared e = omega arith
 number_not_0 FalseOrder e = omega arith

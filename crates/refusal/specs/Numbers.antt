@@ -1,7 +1,7 @@
 -- The refusals by their numbers in document 01's table "Turned away", to which document 02 adds rows.
 use Rattle.std.specs.Prelude.{ℕ}
 use Rattle.refusal.specs.declared.Refusal.{Refusal}
-use Rattle.refusal.specs.declared.Refusal.TheVariants.{NoPattern, LongPattern, ShortScratch, FalsePattern, LongText, ShortInput, NoTrailer, FalseDirectory, RecordsApart, ZeroInPattern, ShortLengths, CutBatch, ShortRows, ClassesNot256, ZeroClassShared, FalseOrder, ShortJournal, FalseJournal, FalseList, ShortList}
+use Rattle.refusal.specs.declared.Refusal.TheVariants.{NoPattern, LongPattern, ShortScratch, FalsePattern, LongText, ShortInput, NoTrailer, FalseDirectory, RecordsApart, ZeroInPattern, ShortLengths, ClassesNot256, ZeroClassShared, FalseOrder, ShortJournal, FalseJournal, FalseList, ShortList}
 
 abbrev pub number_of : Refusal → ℕ
 number_of NoPattern = 1
@@ -15,8 +15,6 @@ number_of FalseDirectory = 8
 number_of RecordsApart = 9
 number_of ZeroInPattern = 10
 number_of ShortLengths = 11
-number_of CutBatch = 12
-number_of ShortRows = 13
 number_of ClassesNot256 = 14
 number_of ZeroClassShared = 15
 number_of FalseOrder = 16

@@ -29,10 +29,6 @@ pub enum Refusal {
     ZeroInPattern,
     // C-14: the lent list is shorter than the record
     ShortLengths,
-    // C-17: a length byte promises more bytes than remain
-    CutBatch,
-    // C-17: the sheet has fewer than four numbers for each motif
-    ShortRows,
     // C-19: the chart hasn't 256 bytes
     ClassesNot256,
     // C-19: another value shares the class of 0
@@ -66,8 +62,6 @@ impl Refusal {
             Refusal::RecordsApart => 9,
             Refusal::ZeroInPattern => 10,
             Refusal::ShortLengths => 11,
-            Refusal::CutBatch => 12,
-            Refusal::ShortRows => 13,
             Refusal::ClassesNot256 => 14,
             Refusal::ZeroClassShared => 15,
             Refusal::FalseOrder => 16,

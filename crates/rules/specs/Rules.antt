@@ -8,7 +8,7 @@ use Rattle.rules.specs.declared.Ending.{Ending}
 use Rattle.rules.specs.declared.Ending.TheVariants.{Done, Spent, Full}
 
 -- What an order of comparison gives for a pattern of m letters: for each rank the place compared, and how far the window moves and with
--- which rank it goes on once it is left with that rank. All places of a window that is left with rank edge-from or later are known.
+-- which rank it goes on once it is left with that rank. All places of a window that is left with rank edge_from or later are known.
 pub record Plan : Type 0 where
   pub m : ℕ
   pub place : ℕ → ℕ

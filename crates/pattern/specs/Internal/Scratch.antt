@@ -1,4 +1,4 @@
--- What the scratch holds between the steps of building: hmax(k) at entry k, and kmin(p) at kminsAt + p.
+-- What the scratch holds between the steps of building: hmax(k) at entry k, and kmin(p) at kmins_at + p.
 use Rattle.std.specs.Prelude.{ℕ, suc, ◌+◌, ◌≤◌, ◌≡◌, List, length, get_or}
 use Rattle.words.specs.Tables.{kmin}
 use Rattle.intake.specs.Sizes.{longest_pattern, scratch_size}

@@ -1,4 +1,4 @@
--- `prepare` meets its contract: it goes by the outcome of its tests, and after success the fill leaves zeros in the first scratchSize
+-- `prepare` meets its contract: it goes by the outcome of its tests, and after success the fill leaves zeros in the first scratch_size
 -- numbers of the scratch. Assumes nothing.
 use native.Mathlib.Omega.{arith}
 use lib.ListN.{length-take}
