@@ -11,6 +11,6 @@ also_spec =
     (tie.spec
     (λ c. search rules)
     (λ c. search rules)
-    (λ c. sym (lets_in_then _ _ c.before.in-Admitted.is c.if-passes.true))
-    (λ c. sym (refused_then _ _ c.before.in-Admitted.is c.if-passes.false))
+    (λ c. sym (lets_in_then _ _ (cc) (cc)))
+    (λ c. sym (refused_then _ _ (cc) (cc)))
     (λ c. sym (refused_before _ _ c.in-Refused.is)))

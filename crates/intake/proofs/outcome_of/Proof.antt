@@ -12,39 +12,12 @@ use Rattle.intake.proofs.Outcomes.{after_first, no_pattern, long_pattern, zero_i
 use Rattle.intake.proofs.outcome_of.Statement.{statement}
 use Rattle.intake.proofs.outcome_of.Tie as tie
 
-abbrev entry : tie.Else-holds → tie.Start
-entry c = c.before.before.before.before.before.before
-
--- No byte is 0.
-clean : (c : tie.Else-holds) → holds 0 (entry c).args.bytes.now ≡ false
-clean c = sym c.before.holds.ensures.0 ∙ c.if-holds.false
-
--- There are 256 classes.
-abbrev sized : tie.After-holds-2 → tie.Else-classes-ne-CLASSES
-sized c = c.before.before.before
-
 abbrev classes-of : tie.After-holds-2 → List ℕ
-classes-of c = (entry (sized c).before).args.classes.now
+classes-of c = c.args.classes.now
 
 -- No other value has the class of 0.
 alone : (c : tie.Else-holds-2) → holds (letter (classes-of c.before) 0) (drop 1 (classes-of c.before)) ≡ false
 alone c = after_first (classes-of c.before) c.before.holds-2.ensures.0 ∙ c.if-holds-2.false
-
-returns-5 : tie.Need-returns-then-holds-2
-returns-5 c =
-    let at = sized c.before in
-    answers _ _ _ (sym (zero_class_shared _ _ _ (omega arith) (omega arith) (clean at.before) at.if-classes-ne-CLASSES.false
-    (after_first (classes-of c.before) c.before.holds-2.ensures.0 ∙ c.if-holds-2.true)))
-
-returns-6 : tie.Need-returns-then-numbers-lt-SCRATCH
-returns-6 c =
-    let at = sized c.before.before in
-    answers _ _ _ (sym (short_scratch _ _ _ (omega arith) (omega arith) (clean at.before) at.if-classes-ne-CLASSES.false (alone c.before) (omega arith)))
-
-returns-7 : tie.Need-returns
-returns-7 c =
-    let at = sized c.before.before in
-    answers _ _ _ (sym (all_pass _ _ _ (omega arith) (omega arith) (clean at.before) at.if-classes-ne-CLASSES.false (alone c.before) (omega arith)))
 
 pub outcome_of_spec : {M : Type 1} → statement M
 outcome_of_spec =
@@ -54,12 +27,15 @@ outcome_of_spec =
     (λ c. answers _ _ _ (sym (long_pattern _ _ _ (omega arith))))
     (λ c κs. search rules)
     (λ c. answers _ _ _ (sym (zero_in_pattern _ _ _ (omega arith) (omega arith) (sym c.before.holds.ensures.0 ∙ c.if-holds.true))))
-    (λ c. answers _ _ _ (sym (classes_not_256 _ _ _ (omega arith) (omega arith) (clean c.before) c.if-classes-ne-CLASSES.true)))
+    (λ c. answers _ _ _ (sym (classes_not_256 _ _ _ (omega arith) (omega arith) (sym c.holds.ensures.0 ∙ c.if-holds.false) (λ e. omega arith))))
     (λ c. search rules)
     (λ c. search rules)
     (λ c. search rules)
     (λ c. search rules)
     (λ c κs. search rules)
-    returns-5
-    returns-6
-    returns-7)
+    (λ c. answers _ _ _ (sym (zero_class_shared _ _ _ (omega arith) (omega arith) (sym c.holds.ensures.0 ∙ c.if-holds.false) (omega arith)
+    (after_first (classes-of c.before) c.holds-2.ensures.0 ∙ c.if-holds-2.true))))
+    (λ c. answers _ _ _ (sym (short_scratch _ _ _ (omega arith) (omega arith) (sym c.holds.ensures.0 ∙ c.if-holds.false) (omega arith) (alone c.before)
+    (omega arith))))
+    (λ c. answers _ _ _ (sym (all_pass _ _ _ (omega arith) (omega arith) (sym c.holds.ensures.0 ∙ c.if-holds.false) (omega arith) (alone c.before)
+    (omega arith)))))

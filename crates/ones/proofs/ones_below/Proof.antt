@@ -5,11 +5,6 @@ use Rattle.ones.proofs.Counting.{answered, inside, past}
 use Rattle.ones.proofs.ones_below.Statement.{statement}
 use Rattle.ones.proofs.ones_below.Tie as tie
 
-returns : tie.Need-returns-then-p-ge-PLACES
-returns c =
-    let args = c.before.before.before.args in
-    answered args.marks.now args.whole.now args.p _ (past args.marks.now args.whole.now args.p _ (omega arith) c.wide.ensures.0)
-
 returns-2 : tie.Need-returns
 returns-2 c =
     let args = c.before.before.before.before.before.args in
@@ -22,7 +17,7 @@ ones_below_spec =
     (tie.spec
     (λ c. search rules)
     (λ c κs. search rules)
-    returns
+    (λ c. answered c.args.marks.now c.args.whole.now c.args.p _ (past c.args.marks.now c.args.whole.now c.args.p _ (omega arith) c.wide.ensures.0))
     (λ c. search rules)
     (λ c. search rules)
     (λ c κs. search rules)

@@ -127,7 +127,7 @@ missed c edge holes letters T M =
     let L = c.leave-after.ensures in
     replays_missed letters _ _ _ T (at-loop.loop-b.invariant letters T M) (inside (more place).before.before.before).1 _ (is-due (more place).before).0
     place.wide8.ensures.0 (beyond place) (room (more place)) (at_place differs.before)
-    (λ z. differs.if-v-eq1.false (ap (λ v. v % 2) (sym (entry_read place)) ∙ z)) M L.0 L.1 edge holes
+    (λ z. omega (arith, ap (λ v. v % 2) (sym (entry_read place)) ∙ z)) M L.0 L.1 edge holes
 
 missed-less : (c : tie.After-leave-after invariant-loop-b decreases-loop-b)
     → (let at-loop = place-loop c.before.before.before in
@@ -186,12 +186,6 @@ returns-3 c letters T M =
     let place = other.before in
     another_place letters _ _ _ T ((place-loop place).loop-b.invariant letters T M) (inside (more place).before.before.before).1 _ (is-due (more place).before).0
     place.wide8.ensures.0 (beyond place) (room (more place)) (λ z. other.if-v-b.true (ap (λ v. v / 2) (sym (entry_read place)) ∙ z))
-
-loop-again : tie.Need-loop-b-preserved-then-v-eq1 invariant-loop-b decreases-loop-b
-loop-again c letters T M =
-    let place = c.before.before in
-    replays_matched letters _ _ _ T ((place-loop place).loop-b.invariant letters T M) (inside (more place).before.before.before).1 _ (is-due (more place).before).0
-    place.wide8.ensures.0 (beyond place) (room (more place)) (at_place c.before) (ap (λ v. v % 2) (entry_read place) ∙ c.if-v-eq1.true)
 
 leave-requires : tie.Need-leave-after-requires invariant-loop-b decreases-loop-b
 leave-requires c κs =
@@ -279,7 +273,10 @@ follow_spec =
     (λ c. let at_more = more c.before in omega (arith, room at_more, (entry (due-loop at_more.before)).well_formed))
     (λ c. let now-due = (more c.before.before).before in omega (arith, (is-due now-due).0, (entry (due-loop now-due)).ranges.m))
     (λ c. omega (arith, (is-due (more c.before.before).before).0))
-    loop-again
+    (λ c letters T M.
+    let place = c.before.before in
+    replays_matched letters _ _ _ T ((place-loop place).loop-b.invariant letters T M) (inside (more place).before.before.before).1 _ (is-due (more place).before).0
+    place.wide8.ensures.0 (beyond place) (room (more place)) (at_place c.before) (omega (arith, ap (λ v. v % 2) (entry_read place))))
     leave-requires
     (λ c. missed-less c.before)
     loop-again-2
