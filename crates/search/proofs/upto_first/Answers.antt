@@ -1,38 +1,32 @@
 -- Who is not let in is refused, and for the others the scan stops as the search does.
-use Rattle.std.proofs.Common.{◌≡◌, ◌∙◌, sym, length, arith}
-use Rattle.admission.specs.Admitted.{admitted}
-use Rattle.admission.specs.declared.Admission.TheVariants.{Admitted}
+use Rattle.std.proofs.Common.{sym, length, arith}
+use Rattle.std.proofs.lemmas.Result.{err_from_is_err_and}
 use Rattle.admission.proofs.Admitting.{at_the_door, admitted_is}
-use Rattle.checked.proofs.Reading.{Fields, fields_of}
+use Rattle.checked.proofs.Reading.{fields_of}
 use Rattle.search.proofs.LentTables.{letters_are, lent_order, lent_moves}
 use Rattle.search.proofs.Stops.{stop_refused, stop_scanned}
 use Rattle.search.proofs.upto_first.Goals as goal
-use Rattle.search.proofs.upto_first.Goals.{In-Admitted}
-
-let_in : (c : In-Admitted) → admitted c.args.pattern (length c.args.text.now) ≡ Admitted
-let_in c = at_the_door _ _ c.admit-door.ensures.answer c.is_prepared.ensures.test ∙ c.in-Admitted.is
-
--- What the letters and the tables are read off.
-fields : (c : In-Admitted) → Fields c.args.pattern
-fields c = fields_of _ (admitted_is _ _ (let_in c)).prepared
 
 pub letters-letters-requires : goal.letters-letters-requires
-letters-letters-requires c = (fields (goal.at.letters-letters-requires c).In-Admitted).short
+letters-letters-requires c =
+    (fields_of _ (admitted_is _ _ (at_the_door c.args.pattern (length c.args.text.now) c.in_ok-admit.ensures.answer c.is_prepared.ensures.test)).prepared).short
 
-pub scan-stop-requires : goal.scan-stop-requires
-scan-stop-requires c =
-    let told = (goal.at.scan-stop-requires c).In-Admitted in
+pub scan-requires : goal.scan-requires
+scan-requires c =
+    let told = at_the_door c.args.pattern (length c.args.text.now) c.in_ok-admit.ensures.answer c.is_prepared.ensures.test in
+    let F = fields_of _ (admitted_is _ _ told).prepared in
     record {
-      order = lent_order _ (fields told) c.letters-letters.ensures;
-      moves = lent_moves _ (fields told) c.letters-letters.ensures;
-      short = omega (arith, (admitted_is _ _ (let_in told)).fits);
+      order = lent_order _ F c.letters-letters.ensures;
+      moves = lent_moves _ F c.letters-letters.ensures;
+      short = omega (arith, (admitted_is _ _ told).fits);
     }
 
-pub returns-in-Admitted : goal.returns-in-Admitted
-returns-in-Admitted c =
-    let told = (goal.at.returns-in-Admitted c).In-Admitted in
-    record { answer = stop_scanned _ _ (let_in told) (letters_are _ (fields told) c.letters-letters.ensures) c.scan-stop.ensures }
+pub returns : goal.returns
+returns c =
+    let told = at_the_door c.args.pattern (length c.args.text.now) c.in_ok-admit.ensures.answer c.is_prepared.ensures.test in
+    record { answer = stop_scanned _ _ told (letters_are _ (fields_of _ (admitted_is _ _ told).prepared) c.letters-letters.ensures) c.scan.ensures }
 
-pub returns-in-Refused : goal.returns-in-Refused
-returns-in-Refused c =
-    record { answer = sym (stop_refused _ _ (at_the_door _ _ c.admit-door.ensures.answer c.is_prepared.ensures.test ∙ c.in-Refused.is)) }
+pub returns-in_err-admit : goal.returns-in_err-admit
+returns-in_err-admit c =
+    let p = err_from_is_err_and c.from_residual.result c.from_residual.ensures.1 in
+    rw (p.1, p.2) (record { answer = sym (stop_refused _ _ (at_the_door c.args.pattern (length c.args.text.now) c.in_err-admit.ensures.answer c.is_prepared.ensures.test)) })

@@ -1,5 +1,5 @@
 -- A turn of the loop is a turn of the scan by rank (proofs/ColussiScan).
-use Rattle.std.proofs.Common.{◌≡◌, ◌+◌, ◌-◌, ◌<◌, length, take, refl, ap, arith}
+use Rattle.std.proofs.Common.{◌+◌, ◌-◌, ◌<◌, length, take, refl, ap, arith}
 use Rattle.classes.specs.Classes.{through}
 use Rattle.classes.proofs.Through.{length_through}
 use Rattle.rules.specs.Rules.{text_source, left}

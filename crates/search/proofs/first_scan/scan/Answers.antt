@@ -1,5 +1,5 @@
 -- A turn of the loop is a turn of the scan by rank, without a list (proofs/FirstScan).
-use Rattle.std.proofs.Common.{◌≡◌, ◌+◌, ◌-◌, ◌<◌, length, take, refl, arith}
+use Rattle.std.proofs.Common.{◌-◌, ◌<◌, length, refl, arith}
 use Rattle.classes.specs.Classes.{through}
 use Rattle.classes.proofs.Through.{length_through}
 use Rattle.rules.specs.Rules.{left}
