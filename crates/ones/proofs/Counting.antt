@@ -155,7 +155,9 @@ module _ (marks : List ℕ) where
   -- All are the list.
   pub all_stored : (whole : List ℕ) → Stored whole 4 → whole ≡ whole_words marks
   unfolding whole_words
-  all_stored whole S = ext_get_or 0 whole (whole_words marks) S.size (λ i l. S.each i (omega (arith, S.size)) ∙ sym (whole_at i (omega (arith, S.size))))
+  all_stored whole S = ext_get_or 0 whole (whole_words marks) S.size (λ i l.
+      let upto : i ≤ 4 = omega (arith, S.size) in
+      S.each i upto ∙ sym (whole_at i upto))
 
   -- A bit is read as the lowest one of what is left of its word,
   pub bit_read : (p : ℕ) → p < 256 → marked marks p ≡ eqb (bit_and (get_or marks (p / 64) 0 / 2 ^ (p % 64)) 1) 1

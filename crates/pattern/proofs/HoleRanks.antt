@@ -6,13 +6,13 @@ use mathlib.Core.Bool.{true, false, cond}
 use mathlib.Core.List.{List}
 use native.Mathlib.Omega.{arith}
 use native.Mathlib.Numerals.{add-one}
-use lib.Dec.{leb, ltb}
+use lib.Dec.{ltb}
 use lib.ListN.{length, set}
-use borrow.Author.Tests.{le-leb, lt-leb, lt-ltb, le-ltb}
+use borrow.Author.Tests.{lt-ltb, le-ltb}
 use Rattle.std.specs.Int.{from_bool}
 use Rattle.words.specs.Numbers.{count, tabulate}
 use Rattle.words.specs.Tables.{hmax, nohole, kmin, rmin, below, noholes, place, rank, shift, next}
-use Rattle.words.proofs.Cases.{less_or, true_or_false}
+use Rattle.words.proofs.Cases.{less_or}
 use Rattle.words.proofs.Noholes.{hmax_is, kmin_nohole, kmin_hole, nohole_is, zero_hole}
 use Rattle.words.proofs.Ranks.{below_le, below_nohole, below_hole, holes_grow, rank_hole, hole_late, rank_inside, place_rank}
 use Rattle.words.proofs.Rmin.{rmin_last, rmin_period, rmin_no_period}
@@ -41,7 +41,12 @@ module _ (w : List ℕ) where
   -- ---- What a place leaves with
 
   pub leaves_begins : Leaves w (length w) (length w) 0
-  leaves_begins = record { upto = omega arith; shift = λ l. absurd (omega arith); next = omega (arith, below_le w (length w - length w)); small = omega arith }
+  leaves_begins = record {
+    upto = omega arith;
+    shift = λ l. absurd (omega arith);
+    next = omega (arith, below_le w (length w - length w));
+    small = omega arith;
+  }
 
   -- Up to the first nohole nothing is counted,
   pub none_counted : (first p : ℕ) → 1 ≤ length w → first ≡ hmax w 1 → p ≤ first → 0 ≡ below w p
@@ -149,10 +154,6 @@ module _ (w : List ℕ) where
         (λ (a : k ≤ length w). let e : i + 0 ≡ i = omega arith in rw (le-ltb (length w) k a, e) (list_nohole a))
         (less_or (length w) k)
 
-    -- Rank i is free.
-    pub holes_free : i < length w
-    holes_free = ⊎_elim (λ e. (nohole_at e).free) (λ e. (hole_at e).free) (true_or_false (nohole w p))
-
   -- ---- From place to place
 
   -- While a place is left, a rank is free: the place 0 is a hole.
@@ -173,7 +174,8 @@ module _ (w : List ℕ) where
       → Holes w (set orders i p) (set shifts i s) (set nexts i n) p (i + a) s n
   holes_more {orders} {shifts} {nexts} short left p i s n k m a down least size counts E H =
       let e : a ≡ cond (ltb (length w) k) 1 0 = rw size at (counts ∙ one_if (ltb m k)) in
-      let more : ListsHoles w (set orders i p) (set shifts i s) (set nexts i n) p (i + a) = rw e (holes_place short left p i s n k down (omega (arith, H.upto)) least E H.holes) in
+      let placed = holes_place short left p i s n k down (omega (arith, H.upto)) least E H.holes in
+      let more : ListsHoles w (set orders i p) (set shifts i s) (set nexts i n) p (i + a) = rw e placed in
       record { upto = omega (arith, H.upto); leaves = E; room = rank_free p (i + a) more.rank; holes = more }
 
   pub holes_all : {orders shifts nexts : List ℕ} (left i s n : ℕ) → left ≡ 0 → Holes w orders shifts nexts left i s n

@@ -30,9 +30,6 @@ use Rattle.pattern.proofs.Ranked.{kept_in, more_in}
 -- ---- Numbers that are asked for, rank by rank
 
 module _ (marks orders shifts later : List ℕ) where
-  pub asks_none : (before : List ℕ) → Asks marks orders shifts later 0 before before
-  asks_none before = record { size = refl; done = λ u l. absurd (omega arith); others = λ j. inr refl }
-
   -- One more is stored, at the rank i that is listed next.
   pub asks_more : {before after : List ℕ} (t i v : ℕ) → i < length before → i ≡ get_or later t 0 → v ≡ asked marks orders shifts i
       → Asks marks orders shifts later t before after → Asks marks orders shifts later (t + 1) before (set after i v)
@@ -289,8 +286,7 @@ module _ (w : List ℕ) where
       let from : i * 64 ≡ 64 * i = omega arith in
       let to : i * 64 + 64 ≡ (i + 1) * 64 = omega arith in
       let all : i * 64 + 64 - i * 64 ≡ 64 = omega arith in
-      let bits_are : word ≡ bits (nohole w) (i * 64) 64 = rw all at W.marks in
-      (
+      let bits_are : word ≡ bits (nohole w) (i * 64) 64 = rw all at W.marks in (
         λ k l. after_store marks i word (λ x. x ≡ mark_word w k) k inside
             (λ same. rw (same, ← from) bits_are)
             (λ other. each k (omega arith)),

@@ -1,14 +1,15 @@
-// Marks with the ones of their first words, so that those below a place are counted fast.
+// Marks of which those below a place are counted.
 ghost use Rattle.std.specs.Prelude.{◌≡◌, ◌≤◌};
 ghost use Rattle.words.specs.Numbers.{count};
 ghost use Rattle.ones.specs.Marks.{marked, whole_words};
 
 use ones::{WORDS, ones_below, whole_words};
 
+// The marks, and the ones of their first words.
 #[derive(Clone, Copy)]
 pub struct Counted<'a> {
     pub marks: &'a [u64; WORDS],
-    pub whole: [u16; WORDS + 1],
+    whole: [u16; WORDS + 1],
     ghost sums: { whole ≡ whole_words marks.now },
 }
 

@@ -29,7 +29,11 @@ pub fn leaving_at(tables: &Tables, marks: &Counted, p: usize, above: Leaving) ->
         return above;
     }
     let rest = m - shift;
-    let next = if rest <= tables.hmax(1) { 0 } else { marks.below(rest) };
+    let next = if rest <= tables.hmax(1) {
+        0
+    } else {
+        marks.below(rest)
+    };
     Leaving { shift, next }
 }
 

@@ -15,9 +15,8 @@ ghost use Rattle.pattern.specs.Built.{zero_pattern, unbuilt, built_from, scratch
 
 pub use classes::CLASSES;
 pub use intake::{LONGEST_PATTERN, SCRATCH};
-pub use sizes::RANKS;
-
 use ones::WORDS;
+pub use sizes::RANKS;
 
 // Each entry becomes v.
 pub fn fill(part: &mut [u16], v: u16)

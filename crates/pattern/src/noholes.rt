@@ -10,69 +10,56 @@ use super::tables::Tables;
 use intake::LONGEST_PATTERN;
 use ones::{BITS, WORDS};
 
-// How many noholes there are so far, and how many of their ranks are listed for later.
+// How many noholes there are so far, and the ranks of theirs that are listed for later, `many` of them.
 #[derive(Clone, Copy)]
 pub struct Listed {
     pub noholes: usize,
-    pub later: usize,
+    pub later: [u8; LONGEST_PATTERN],
+    pub many: usize,
 }
 
 // Writes the noholes among the places of a word, which begins at the place from, and their shifts; marks them; and lists for later the ranks
 // whose next is not 0. No nohole lies below hmax(1), so nothing is looked at before, and the next of a nohole p is 0 where p - kmin(p) is at
 // most that. Which places are noholes cannot be foretold: each place is written at the rank that is free, and the next place writes over it
 // unless the rank was taken.
-pub fn list_word(
-    tables: &Tables,
-    from: usize,
-    listed: &mut Listed,
-    ranks: &mut ByRank,
-    later: &mut [u8; LONGEST_PATTERN],
-) -> u64
-    requires from_bound {
-      (from ≤ 192) × ListsNoholes tables.now.letters.now ranks.old.order ranks.old.shift later.old from listed.old.noholes listed.old.later
-    }
-    ensures word { ListsWord tables.now.letters.now ranks.new.order ranks.new.shift later.new from (from + 64) result listed.new.noholes listed.new.later }
+pub fn list_word(tables: &Tables, from: usize, listed: &mut Listed, ranks: &mut ByRank) -> u64
+    requires from_bound { (from ≤ 192)
+        × ListsNoholes tables.now.letters.now ranks.old.order ranks.old.shift listed.old.later from listed.old.noholes listed.old.many }
+    ensures word { ListsWord
+        tables.now.letters.now ranks.new.order ranks.new.shift listed.new.later from (from + 64) result listed.new.noholes listed.new.many }
     ensures next { ranks.new.next ≡ ranks.old.next }
 {
     let m = tables.len();
     let first = tables.hmax(1);
     let mut i = listed.noholes;
-    let mut t = listed.later;
+    let mut t = listed.many;
     let mut word: u64 = 0;
     for p in first.max(from)..m.min(from + BITS) {
         let k = tables.kmin(p);
         ranks.order[i] = p as u8;
         ranks.shift[i] = k as u16;
-        later[t] = i as u8;
+        listed.later[t] = i as u8;
         let nohole = k <= m;
         word += u64::from(nohole) << (p - from);
         i += usize::from(nohole);
         t += usize::from(first + k < p);
     }
-    *listed = Listed {
-        noholes: i,
-        later: t,
-    };
+    listed.noholes = i;
+    listed.many = t;
     word
 }
 
-// The same for all words.
-pub fn list_noholes(
-    tables: &Tables,
-    listed: &mut Listed,
-    ranks: &mut ByRank,
-    later: &mut [u8; LONGEST_PATTERN],
-) -> [u64; WORDS]
-    requires none { ListsNoholes tables.now.letters.now ranks.old.order ranks.old.shift later.old 0 listed.old.noholes listed.old.later }
+// The same for all words, whose marks it answers.
+pub fn list_noholes(tables: &Tables, listed: &mut Listed, ranks: &mut ByRank) -> [u64; WORDS]
+    requires none { ListsNoholes tables.now.letters.now ranks.old.order ranks.old.shift listed.old.later 0 listed.old.noholes listed.old.many }
     ensures marks { result ≡ tabulate 4 (mark_word tables.now.letters.now) }
-    ensures all {
-      ListsNoholes tables.now.letters.now ranks.new.order ranks.new.shift later.new (length tables.now.letters.now) listed.new.noholes listed.new.later
-    }
+    ensures all { ListsNoholes
+        tables.now.letters.now ranks.new.order ranks.new.shift listed.new.later (length tables.now.letters.now) listed.new.noholes listed.new.many }
     ensures next { ranks.new.next ≡ ranks.old.next }
 {
     let mut marks = [0; WORDS];
     for (i, word) in marks.iter_mut().enumerate() {
-        *word = list_word(tables, i * BITS, listed, ranks, later);
+        *word = list_word(tables, i * BITS, listed, ranks);
     }
     marks
 }

@@ -1,10 +1,11 @@
-// A pattern's letters, and the two tables that the scratch holds of them.
+// The two tables of a pattern's letters in the scratch.
 ghost use Rattle.std.specs.Prelude.{◌≡◌, ◌+◌, ◌≤◌, length};
 ghost use Rattle.words.specs.Tables.{hmax, kmin};
 ghost use Rattle.pattern.specs.Internal.Scratch.{Sizes, HasTables};
 
 use super::sizes::KMINS;
 
+// The letters, and a scratch that is filled: hmax(k) is its entry k, and kmin(p) its entry KMINS + p.
 #[derive(Clone, Copy)]
 pub struct Tables<'a> {
     pub letters: &'a [u8],

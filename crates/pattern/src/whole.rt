@@ -36,14 +36,14 @@ fn read_off(bytes: &[u8], classes: &[u8], tables: &Tables) -> Pattern
         shift: [0; RANKS],
         next: [0; RANKS],
     };
-    let mut later = [0; LONGEST_PATTERN];
     let mut listed = Listed {
         noholes: 0,
-        later: 0,
+        later: [0; LONGEST_PATTERN],
+        many: 0,
     };
-    let marks = list_noholes(tables, &mut listed, &mut ranks, &mut later);
+    let marks = list_noholes(tables, &mut listed, &mut ranks);
     let counted = Counted::new(&marks);
-    next_noholes(&counted, &later[..listed.later], &mut ranks);
+    next_noholes(&counted, &listed.later[..listed.many], &mut ranks);
     list_holes(tables, &counted, listed.noholes, &mut ranks);
     Pattern {
         len: bytes.len(),
@@ -72,14 +72,14 @@ fn of_letters(bytes: &[u8], classes: &[u8], letters: &[u8], scratch: &mut [u16])
 }
 
 // Bytes are mapped once, and only their letters compared.
-pub fn whole<'a>(bytes: &'a [u8], classes: &'a [u8], scratch: &mut [u16]) -> Built
+pub fn whole(bytes: &[u8], classes: &[u8], scratch: &mut [u16]) -> Built
     requires sizes { Sizes bytes.now scratch.old }
     requires classes_len { length classes.now ≡ class_count }
     ensures value { result ≡ built bytes.now classes.now }
     ensures scratch_after { scratch.new ≡ tables_after (through classes.now bytes.now) scratch.old }
 {
     let m = bytes.len();
-    let mut letters = [0u8; LONGEST_PATTERN];
+    let mut letters = [0; LONGEST_PATTERN];
     put_letters(bytes, classes, &mut letters);
     of_letters(bytes, classes, &letters[..m], scratch)
 }

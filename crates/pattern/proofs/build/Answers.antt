@@ -1,5 +1,6 @@
 -- The test is that of `buildable`.
 use Rattle.std.proofs.Common.{◌∙◌, sym, length, arith}
+use Rattle.pattern.specs.Internal.Scratch.{Sizes}
 use Rattle.pattern.proofs.Building.{build_answer, after_build, no_answer, no_change}
 use Rattle.pattern.proofs.build.Goals as goal
 
@@ -13,9 +14,12 @@ returns-then-is_empty-clause-scratched c =
 
 pub returns-clause-answer : goal.returns-clause-answer
 returns-clause-answer c =
-    c.whole.ensures.value ∙ sym (build_answer c.args.bytes.now c.args.classes.now (length c.args.scratch.now) (grind arith) (omega arith) (omega arith) (omega arith))
+    let n = length c.args.scratch.now in
+    c.whole.ensures.value
+    ∙ sym (build_answer c.args.bytes.now c.args.classes.now n (grind arith) (omega arith) (omega arith) (omega arith))
 
 pub returns-clause-scratched : goal.returns-clause-scratched
 returns-clause-scratched c =
-    c.whole.ensures.scratch_after
-    ∙ sym (after_build c.args.bytes.now c.args.classes.now c.args.scratch.now record { some = grind arith; short = omega arith; room = omega arith } (omega arith))
+    let s = c.args.scratch.now in
+    let sizes : Sizes c.args.bytes.now s = record { some = grind arith; short = omega arith; room = omega arith } in
+    c.whole.ensures.scratch_after ∙ sym (after_build c.args.bytes.now c.args.classes.now s sizes (omega arith))

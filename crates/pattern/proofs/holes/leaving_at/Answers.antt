@@ -1,5 +1,5 @@
 -- The place p + 1 is a period where its hmax is the length.
-use Rattle.std.proofs.Common.{◌≡◌, ◌+◌, ◌-◌, ◌∙◌, length, arith}
+use Rattle.std.proofs.Common.{◌≡◌, ◌+◌, ◌-◌, length, arith}
 use Rattle.pattern.proofs.HoleRanks.{below_counted, none_counted, leaves_period, leaves_no_period}
 use Rattle.pattern.proofs.holes.leaving_at.Goals as goal
 

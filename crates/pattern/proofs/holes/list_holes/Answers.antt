@@ -1,5 +1,5 @@
 -- Each place is written at the rank that is free, and leaves it free where it is a nohole.
-use Rattle.std.proofs.Common.{◌≡◌, ◌-◌, ◌∙◌, arith}
+use Rattle.std.proofs.Common.{◌-◌, arith}
 use Rattle.pattern.proofs.HoleRanks.{holes_from, holes_more, holes_all}
 use Rattle.pattern.proofs.holes.list_holes.Goals as goal
 

@@ -1,5 +1,5 @@
 -- Each word goes on where the one before it ends.
-use Rattle.std.proofs.Common.{◌≡◌, ◌*◌, ◌∙◌, length-set, arith}
+use Rattle.std.proofs.Common.{◌*◌, ◌∙◌, length-set, arith}
 use Rattle.pattern.proofs.NoholeRanks.{list_ends, next_word, all_words}
 use Rattle.pattern.proofs.noholes.list_noholes.Goals as goal
 

@@ -1,5 +1,5 @@
 -- The bytes stand before as many zeros as are left.
-use Rattle.std.proofs.Common.{◌≡◌, ◌++◌, ◌∙◌, ap, length}
+use Rattle.std.proofs.Common.{◌++◌, ap, length}
 use Rattle.std.proofs.lemmas.List.{drop-replicate}
 use Rattle.pattern.specs.Lists.{padded}
 use Rattle.pattern.proofs.whole.copied.Goals as goal

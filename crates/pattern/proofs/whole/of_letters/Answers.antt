@@ -1,5 +1,5 @@
 -- Each step needs what those before it ensure.
-use Rattle.std.proofs.Common.{◌≡◌, ◌∙◌, ap, arith}
+use Rattle.std.proofs.Common.{◌∙◌, ap}
 use Rattle.hmax.proofs.Tables.{after_known, after_compared}
 use Rattle.pattern.specs.Built.{kmins_after, tables_after}
 use Rattle.pattern.proofs.Building.{room, hmax_sizes, kmin_sizes, tables, built_is}
