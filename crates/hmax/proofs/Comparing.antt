@@ -28,8 +28,8 @@ pub record Comparing (w before s : List ℕ) (k again i : ℕ) : Type 0 where
   pub kept : KeptFrom (suc (length w)) before s
 
 -- It is so, where its turn is counted from a place.
-comparing : {w before s : List ℕ} {k again i : ℕ} (from : ℕ) → Counts w k from again → i ≡ hmax w k → HasHmax w s k → KeptFrom (suc (length w)) before s
-    → Comparing w before s k again i
+comparing : {w before s : List ℕ} {k again i : ℕ} (from : ℕ) → Counts w k from again → i ≡ hmax w k → HasHmax w s k
+    → KeptFrom (suc (length w)) before s → Comparing w before s k again i
 comparing {w} {before} {s} {k} {again} {i} from C is known kept =
     let B = counts_begins w k from again C in
     let H = hmax_is w k B.positive C.inside in
