@@ -5,7 +5,7 @@ use Rattle.admission.specs.declared.Admission.TheVariants.{Admitted}
 use Rattle.admission.proofs.Admitting.{at_the_door, admitted_is}
 use Rattle.checked.proofs.Reading.{Fields, fields_of}
 use Rattle.rules.specs.Colussi.{colussi}
-use Rattle.search.proofs.LentTables.{letters_are, lent_order, lent_moves}
+use Rattle.search.proofs.LentTables.{letters_are, lent}
 use Rattle.search.proofs.Answers.{refused, scanned}
 use Rattle.search.proofs.Promises.{colussi_promises}
 use Rattle.search.proofs.colussi.Goals as goal
@@ -25,8 +25,7 @@ pub scan-report-requires : goal.scan-report-requires
 scan-report-requires c =
     let told = (goal.at.scan-report-requires c).In-Admitted in
     record {
-      order = lent_order _ (fields told) c.letters-letters.ensures;
-      moves = lent_moves _ (fields told) c.letters-letters.ensures;
+      lent = lent _ (fields told) c.letters-letters.ensures;
       short = omega (arith, (admitted_is _ _ (let_in told)).fits);
     }
 
@@ -34,7 +33,7 @@ pub returns-in-Admitted : goal.returns-in-Admitted
 returns-in-Admitted c =
     let told = (goal.at.returns-in-Admitted c).In-Admitted in
     let P = colussi_promises c.args.pattern _ c.args.cap _
-        (scanned colussi c.args.pattern _ c.args.cap _ (let_in told) (letters_are _ (fields told) c.letters-letters.ensures) c.scan-report.ensures) in
+    (scanned colussi c.args.pattern _ c.args.cap _ (let_in told) (letters_are _ (fields told) c.letters-letters.ensures) c.scan-report.ensures) in
     record {
       answer = P.0;
       list = P.1.0;
@@ -49,7 +48,7 @@ returns-in-Admitted c =
 pub returns-in-Refused : goal.returns-in-Refused
 returns-in-Refused c =
     let P = colussi_promises c.args.pattern _ c.args.cap _
-        (refused colussi c.args.pattern _ c.args.cap _ (at_the_door _ _ c.admit-door.ensures.answer c.is_prepared.ensures.test ∙ c.in-Refused.is)) in
+    (refused colussi c.args.pattern _ c.args.cap _ (at_the_door _ _ c.admit-door.ensures.answer c.is_prepared.ensures.test ∙ c.in-Refused.is)) in
     record {
       answer = P.0;
       list = P.1.0;

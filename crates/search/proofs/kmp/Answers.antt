@@ -40,7 +40,7 @@ pub returns-in-Admitted : goal.returns-in-Admitted
 returns-in-Admitted c =
     let told = (goal.at.returns-in-Admitted c).In-Admitted in
     let P = kmp_promises c.args.pattern _ c.args.cap _
-        (scanned kmp c.args.pattern _ c.args.cap _ (let_in told) (letters_are _ (fields told) c.letters-letters.ensures) c.scan-report.ensures) in
+    (scanned kmp c.args.pattern _ c.args.cap _ (let_in told) (letters_are _ (fields told) c.letters-letters.ensures) c.scan-report.ensures) in
     record {
       answer = P.0;
       list = P.1.0;
@@ -56,7 +56,7 @@ returns-in-Admitted c =
 pub returns-in-Refused : goal.returns-in-Refused
 returns-in-Refused c =
     let P = kmp_promises c.args.pattern _ c.args.cap _
-        (refused kmp c.args.pattern _ c.args.cap _ (at_the_door _ _ c.admit-door.ensures.answer c.is_prepared.ensures.test ∙ c.in-Refused.is)) in
+    (refused kmp c.args.pattern _ c.args.cap _ (at_the_door _ _ c.admit-door.ensures.answer c.is_prepared.ensures.test ∙ c.in-Refused.is)) in
     record {
       answer = P.0;
       list = P.1.0;

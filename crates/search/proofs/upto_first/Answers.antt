@@ -4,7 +4,7 @@ use Rattle.admission.specs.Admitted.{admitted}
 use Rattle.admission.specs.declared.Admission.TheVariants.{Admitted}
 use Rattle.admission.proofs.Admitting.{at_the_door, admitted_is}
 use Rattle.checked.proofs.Reading.{Fields, fields_of}
-use Rattle.search.proofs.LentTables.{letters_are, lent_order, lent_moves}
+use Rattle.search.proofs.LentTables.{letters_are, lent}
 use Rattle.search.proofs.Stops.{stop_refused, stop_scanned}
 use Rattle.search.proofs.upto_first.Goals as goal
 use Rattle.search.proofs.upto_first.Goals.{In-Admitted}
@@ -23,8 +23,7 @@ pub scan-stop-requires : goal.scan-stop-requires
 scan-stop-requires c =
     let told = (goal.at.scan-stop-requires c).In-Admitted in
     record {
-      order = lent_order _ (fields told) c.letters-letters.ensures;
-      moves = lent_moves _ (fields told) c.letters-letters.ensures;
+      lent = lent _ (fields told) c.letters-letters.ensures;
       short = omega (arith, (admitted_is _ _ (let_in told)).fits);
     }
 

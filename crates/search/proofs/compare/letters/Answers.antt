@@ -1,5 +1,5 @@
 -- The letters of so many bytes are put first.
-use Rattle.std.proofs.Common.{◌≡◌, ◌≤◌, length, arith}
+use Rattle.std.proofs.Common.{arith}
 use Rattle.classes.proofs.Letters.{first_letters}
 use Rattle.search.proofs.compare.letters.Goals as goal
 

@@ -1,5 +1,5 @@
 -- Each place adds an entry to both tables, as a nohole's or as a hole's; past the last place those of m are put.
-use Rattle.std.proofs.Common.{◌≡◌, ◌<◌, ℕ, refl, arith}
+use Rattle.std.proofs.Common.{◌<◌, refl, arith}
 use Rattle.search.proofs.KmpScan.{place_begin, place_nohole, place_hole, place_end}
 use Rattle.search.proofs.kmp_scan.by_place.Goals as goal
 use Rattle.search.proofs.kmp_scan.by_place.Goals.{then-j-pattern+then-from-p, else-j-pattern, else-j-pattern-via-then-j-pattern+else-from-p, else-j-pattern-via-else-j-pattern}

@@ -1,5 +1,5 @@
 -- A turn of the loop is a turn of the scan by place (proofs/KmpScan).
-use Rattle.std.proofs.Common.{◌≡◌, ◌+◌, ◌-◌, ◌<◌, ◌≤◌, length, take, set, refl, arith}
+use Rattle.std.proofs.Common.{◌+◌, ◌-◌, ◌<◌, length, set, refl, arith}
 use Rattle.classes.specs.Classes.{through}
 use Rattle.classes.proofs.Through.{length_through}
 use Rattle.rules.specs.Rules.{left}

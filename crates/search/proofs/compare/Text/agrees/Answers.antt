@@ -1,5 +1,5 @@
 -- The class that is read is the text's letter, and the test compares x with it.
-use Rattle.std.proofs.Common.{◌≡◌, ◌∙◌, sym, length, arith}
+use Rattle.std.proofs.Common.{◌∙◌, sym, arith}
 use borrow.Author.Tests.{eqb-true, eqb-false}
 use Rattle.classes.proofs.Through.{class_read, through_at}
 use Rattle.search.proofs.compare.Text.agrees.Goals as goal
