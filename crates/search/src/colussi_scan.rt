@@ -5,7 +5,7 @@ ghost use Rattle.classes.specs.Classes.{through};
 ghost use Rattle.columns.specs.Ended.{ended_with};
 ghost use Rattle.rules.specs.Colussi.{colussi};
 ghost use Rattle.rules.specs.Report.{Reported};
-ghost use Rattle.search.specs.Internal.ColussiScan.{LentOrder, LentMoves, DueAt, edge_after_rank};
+ghost use Rattle.search.specs.Internal.ColussiScan.{Lent, DueAt, edge_after_rank};
 
 use super::compare::Text;
 use columns::with_holes;
@@ -72,10 +72,9 @@ pub fn scan(
     cap: u64,
     positions: &mut [u32],
 ) -> Report
-    requires order { LentOrder letters.now pattern.now.order pattern.now.len pattern.now.noholes }
-    requires moves { LentMoves letters.now pattern.now.shift pattern.now.next pattern.now.len }
+    requires lent { Lent letters.now pattern.now }
     requires short { length text.now < 2 ^ 32 }
-    ensures { Reported (take pattern.now.len letters.now) (colussi (take pattern.now.len letters.now) (through pattern.now.classes text.now) cap (length positions.old)) positions.old positions.new result }
+    ensures { let w = take pattern.now.len letters.now in Reported w (colussi w (through pattern.now.classes text.now) cap (length positions.old)) positions.old positions.new result }
 {
     let m = pattern.len;
     let d = pattern.noholes;

@@ -4,7 +4,7 @@ ghost use Rattle.std.specs.Prelude.{◌≡◌, ◌^◌, ◌<◌, length, take};
 ghost use Rattle.classes.specs.Classes.{through};
 ghost use Rattle.rules.specs.Stopped.{stopped};
 ghost use Rattle.search.specs.Stop.{stop_of};
-ghost use Rattle.search.specs.Internal.ColussiScan.{LentOrder, LentMoves};
+ghost use Rattle.search.specs.Internal.ColussiScan.{Lent};
 
 use super::Stop;
 use super::colussi_scan::{due, leave};
@@ -13,18 +13,19 @@ use pattern::{LONGEST_PATTERN, Pattern};
 use rules::{Ending, NO_CAP};
 
 pub fn scan(pattern: &Pattern, letters: &[u8; LONGEST_PATTERN], text: &[u8]) -> Stop
-    requires order { LentOrder letters.now pattern.now.order pattern.now.len pattern.now.noholes }
-    requires moves { LentMoves letters.now pattern.now.shift pattern.now.next pattern.now.len }
+    requires lent { Lent letters.now pattern.now }
     requires short { length text.now < 2 ^ 32 }
     ensures { result ≡ stop_of (stopped (take pattern.now.len letters.now) (through pattern.now.classes text.now)) }
 {
-    if text.len() < pattern.len {
+    let m = pattern.len;
+    let d = pattern.noholes;
+    if text.len() < m {
         return Stop {
             ending: Ending::Done,
             count: 0,
         };
     }
-    let last = text.len() - pattern.len;
+    let last = text.len() - m;
     let text = Text {
         classes: &pattern.classes,
         bytes: text,
@@ -47,7 +48,7 @@ pub fn scan(pattern: &Pattern, letters: &[u8; LONGEST_PATTERN], text: &[u8]) -> 
                 i = after.rank;
                 e = after.edge;
                 // As in the scan with a list.
-                if i == 0 && 0 < pattern.noholes && b <= last {
+                if i == 0 && 0 < d && b <= last {
                     let spot = text.ahead(x, first, last, b, left);
                     b = spot.window;
                     i = spot.rank;

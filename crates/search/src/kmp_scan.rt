@@ -79,7 +79,7 @@ pub fn scan(
     requires some { (1 ≤ pattern.now.len) × (pattern.now.len ≤ longest_pattern) }
     requires tables { KmpTables (take pattern.now.len letters.now) tables.now.shifts tables.now.belows }
     requires short { length text.now < 2 ^ 32 }
-    ensures { Reported (take pattern.now.len letters.now) (kmp (take pattern.now.len letters.now) (through pattern.now.classes text.now) cap (length positions.old)) positions.old positions.new result }
+    ensures { let w = take pattern.now.len letters.now in Reported w (kmp w (through pattern.now.classes text.now) cap (length positions.old)) positions.old positions.new result }
 {
     let m = pattern.len;
     if text.len() < m {

@@ -4,7 +4,7 @@ use Rattle.std.proofs.lemmas.Result.{err_from_is_err_and}
 use Rattle.admission.proofs.Admitting.{at_the_door, admitted_is}
 use Rattle.checked.proofs.Reading.{fields_of}
 use Rattle.rules.specs.Colussi.{colussi}
-use Rattle.search.proofs.LentTables.{letters_are, lent_order, lent_moves}
+use Rattle.search.proofs.LentTables.{letters_are, lent}
 use Rattle.search.proofs.Answers.{refused, scanned}
 use Rattle.search.proofs.Promises.{colussi_promises}
 use Rattle.search.proofs.colussi.Goals as goal
@@ -18,8 +18,7 @@ scan-requires c =
     let told = at_the_door c.args.pattern (length c.args.text.now) c.in_ok-admit.ensures.answer c.is_prepared.ensures.test in
     let F = fields_of _ (admitted_is _ _ told).prepared in
     record {
-      order = lent_order _ F c.letters-letters.ensures;
-      moves = lent_moves _ F c.letters-letters.ensures;
+      lent = lent _ F c.letters-letters.ensures;
       short = omega (arith, (admitted_is _ _ told).fits);
     }
 

@@ -16,11 +16,11 @@ missed : (c : After-leave-after)
     let after = c.leave-after.result in
     ScansUpTo c.args.letters.now pattern.len pattern.noholes (through pattern.classes c.args.text.now) after.window after.rank after.edge (c.loop-b.left - 1))
 missed c =
-    let T = c.requires.order in
+    let T = c.requires.lent.order in
     let D = due_place _ _ _ _ T c.due.ensures c.if-due.true c.from-o.ensures in
     let L = c.leave-after.ensures in
     upto_missed _ _ _ _ T _ (omega (arith, length_through c.args.pattern.now.classes c.args.text.now)) c.loop-b.invariant
-    (in_text _ _ c.if-text-pattern.false c.loop-b-test.true) _ D.0 c.from-o.ensures D.1 (c.agrees.ensures.no c.if-agrees.false) c.requires.moves
+    (in_text _ _ c.if-text-m.false c.loop-b-test.true) _ D.0 c.from-o.ensures D.1 (c.agrees.ensures.no c.if-agrees.false) c.requires.lent.moves
     L.window L.rank L.edge L.holes
 
 missed-less : (c : After-leave-after)
@@ -28,40 +28,40 @@ missed-less : (c : After-leave-after)
     let n = length (through c.args.pattern.now.classes c.args.text.now) in
     left m n c.leave-after.result.window c.leave-after.result.rank < left m n c.loop-b.b c.loop-b.i)
 missed-less c =
-    rw c.leave-after.ensures.window (fewer _ _ _ _ _ _ (in_text _ _ c.if-text-pattern.false c.loop-b-test.true)
-    (shift_on _ _ _ _ c.requires.order _ _ c.requires.moves c.loop-b.i (omega (arith, (c.due.ensures.yes c.if-due.true).0))))
+    rw c.leave-after.ensures.window (fewer _ _ _ _ _ _ (in_text _ _ c.if-text-m.false c.loop-b-test.true)
+    (shift_on _ _ _ _ c.requires.lent.order _ _ c.requires.lent.moves c.loop-b.i (omega (arith, (c.due.ensures.yes c.if-due.true).0))))
 
-pub returns-then-text-pattern : goal.returns-then-text-pattern
-returns-then-text-pattern c =
+pub returns-then-text-m : goal.returns-then-text-m
+returns-then-text-m c =
     let n = length_through c.args.pattern.now.classes c.args.text.now in
-    stops_at_once _ _ _ _ c.requires.order (through c.args.pattern.now.classes c.args.text.now) (omega (arith, n)) (omega (arith, n))
+    stops_at_once _ _ _ _ c.requires.lent.order (through c.args.pattern.now.classes c.args.text.now) (omega (arith, n)) (omega (arith, n))
 
 pub loop-b-init : goal.loop-b-init
 loop-b-init c = upto_start _ _ _ _
 
 pub overflow_sub-left : goal.overflow_sub-left
 overflow_sub-left c =
-    let T = c.requires.order in
+    let T = c.requires.lent.order in
     let D = due_place _ _ _ _ T c.due.ensures c.if-due.true c.from-o.ensures in
     omega (
       arith,
       unspent _ _ _ _ T _ (omega (arith, length_through c.args.pattern.now.classes c.args.text.now)) c.loop-b.invariant
-          (in_text _ _ c.if-text-pattern.false c.loop-b-test.true) _ D.0 c.from-o.ensures D.1,
+          (in_text _ _ c.if-text-m.false c.loop-b-test.true) _ D.0 c.from-o.ensures D.1,
     )
 
 pub agrees-requires : goal.agrees-requires
-agrees-requires c = omega (arith, due_place _ _ _ _ c.requires.order c.due.ensures c.if-due.true c.from-o.ensures)
+agrees-requires c = omega (arith, due_place _ _ _ _ c.requires.lent.order c.due.ensures c.if-due.true c.from-o.ensures)
 
 pub loop-b-preserved-then-agrees : goal.loop-b-preserved-then-agrees
 loop-b-preserved-then-agrees c =
-    let T = c.requires.order in
+    let T = c.requires.lent.order in
     let D = due_place _ _ _ _ T c.due.ensures c.if-due.true c.from-o.ensures in
     upto_matched _ _ _ _ T _ (omega (arith, length_through c.args.pattern.now.classes c.args.text.now)) c.loop-b.invariant
-    (in_text _ _ c.if-text-pattern.false c.loop-b-test.true) _ D.0 c.from-o.ensures D.1 (c.agrees.ensures.yes c.if-agrees.true)
+    (in_text _ _ c.if-text-m.false c.loop-b-test.true) _ D.0 c.from-o.ensures D.1 (c.agrees.ensures.yes c.if-agrees.true)
 
 pub ahead-spot-requires : goal.ahead-spot-requires
 ahead-spot-requires c =
-    omega (arith, in_window _ _ _ _ c.requires.order 0 c.from-first.result c.requires.order.some c.from-first.ensures)
+    omega (arith, in_window _ _ _ _ c.requires.lent.order 0 c.from-first.result c.requires.lent.order.some c.from-first.ensures)
 
 pub loop-b-smaller-then-b-last : goal.loop-b-smaller-then-b-last
 loop-b-smaller-then-b-last c =
@@ -75,8 +75,8 @@ loop-b-smaller-then-b-last c =
 pub loop-b-preserved-then-b-last : goal.loop-b-preserved-then-b-last
 loop-b-preserved-then-b-last c =
     let n = length_through c.args.pattern.now.classes c.args.text.now in
-    upto_ahead _ _ _ _ c.requires.order _ (omega (arith, n)) (missed (goal.at.loop-b-preserved-then-b-last c).After-leave-after) c.ahead-spot.ensures
-    (omega (arith, n)) c.if-i-eq0.true c.if-pattern-gt0.true c.from-first.ensures refl
+    upto_ahead _ _ _ _ c.requires.lent.order _ (omega (arith, n)) (missed (goal.at.loop-b-preserved-then-b-last c).After-leave-after) c.ahead-spot.ensures
+    (omega (arith, n)) c.if-i-eq0.true c.if-d-gt0.true c.from-first.ensures refl
 
 pub loop-b-smaller : goal.loop-b-smaller
 loop-b-smaller c = missed-less (goal.at.loop-b-smaller c).After-leave-after
@@ -86,12 +86,12 @@ loop-b-preserved c = missed (goal.at.loop-b-preserved c).After-leave-after
 
 pub returns-else-due : goal.returns-else-due
 returns-else-due c =
-    let T = c.requires.order in
-    let fits = in_text _ _ c.if-text-pattern.false c.loop-b-test.true in
+    let T = c.requires.lent.order in
+    let fits = in_text _ _ c.if-text-m.false c.loop-b-test.true in
     stops_full _ _ _ _ T _ (omega (arith, length_through c.args.pattern.now.classes c.args.text.now)) c.loop-b.invariant fits
     (none_due _ _ _ _ T c.loop-b.invariant.by_rank fits c.due.ensures c.if-due.false)
 
 pub returns : goal.returns
 returns c =
-    stops_done _ _ _ _ c.requires.order _ (omega (arith, length_through c.args.pattern.now.classes c.args.text.now)) c.loop-b.invariant
-    (past_text _ _ c.if-text-pattern.false c.loop-b-test.false)
+    stops_done _ _ _ _ c.requires.lent.order _ (omega (arith, length_through c.args.pattern.now.classes c.args.text.now)) c.loop-b.invariant
+    (past_text _ _ c.if-text-m.false c.loop-b-test.false)
