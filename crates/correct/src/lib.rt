@@ -57,8 +57,9 @@ fn join(
     requires small { Small start found.now }
     ensures { Joined positions.old used start past (moved start found.now) positions.new result }
 {
-    let low = bisect::below(positions, used, start);
-    let high = bisect::below(positions, used, past);
+    let in_use = &positions[..used];
+    let low = bisect::below(in_use, start);
+    let high = bisect::below(in_use, past);
     let kept = low + (used - high);
     let new = found.len();
     if positions.len() - kept < new {
