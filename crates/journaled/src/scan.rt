@@ -86,12 +86,14 @@ pub fn scan(
             } else {
                 journal[c] = (2 * p) as u32;
                 c += 1;
-                if d <= i {
-                    h += i + 1 - d;
-                    e = b + m;
+                let (left, rank) = (b, i);
+                b += usize::from(pattern.shift[rank]);
+                i = usize::from(pattern.next[rank]);
+                // Last, so that it stays a branch: most windows are left at a rank before d.
+                if d <= rank {
+                    h += rank + 1 - d;
+                    e = left + m;
                 }
-                b += usize::from(pattern.shift[i]);
-                i = usize::from(pattern.next[i]);
             }
         } else {
             if k == positions.len() {

@@ -39,7 +39,8 @@ fn if_all_read(report: Report, c: usize, journal: &[u32]) -> Option<Report>
 }
 
 // The pass for a text of n bytes and a list of so many entries: its report, if the journal is accepted. Positions are written as far as the lent list
-// goes: with an empty one the pass only follows.
+// goes: with an empty one the pass only follows, and where it is inlined it then adds nothing up.
+#[inline]
 pub fn follow(
     pattern: &Pattern,
     n: usize,
@@ -77,12 +78,14 @@ pub fn follow(
             if equal {
                 i += 1;
             } else {
-                if d <= i {
-                    h += i + 1 - d;
-                    e = b + m;
+                let (left, rank) = (b, i);
+                b += usize::from(pattern.shift[rank]);
+                i = usize::from(pattern.next[rank]);
+                // Last, so that it stays a branch: most windows are left at a rank before d.
+                if d <= rank {
+                    h += rank + 1 - d;
+                    e = left + m;
                 }
-                b += usize::from(pattern.shift[i]);
-                i = usize::from(pattern.next[i]);
             }
         } else {
             if k == size {

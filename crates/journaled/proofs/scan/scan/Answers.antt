@@ -1,11 +1,12 @@
 -- The scan goes by the rules: each turn keeps the loop's state that of the search, and each end reports it and leaves its journal.
-use Rattle.std.proofs.Common.{◌≡◌, ℕ, ◌+◌, ◌-◌, ◌<◌, ◌≤◌, ◌⊎◌, refl, sym, arith, inl, ◌∙◌, List, length, take, get_or}
+use Rattle.std.proofs.Common.{◌≡◌, ℕ, ◌+◌, ◌-◌, ◌*◌, ◌<◌, ◌≤◌, ◌⊎◌, refl, sym, arith, inl, ◌∙◌, List, length, take, get_or, set}
 use mathlib.Core.Logic.{⊎_elim}
 use Rattle.classes.specs.Classes.{through}
 use Rattle.classes.proofs.Through.{length_through}
 use Rattle.journal.proofs.Counting.{count_done, count_spent, count_full}
 use Rattle.rules.specs.Internal.Passing.{Established}
 use Rattle.rules.specs.Colussi.{colussi_plan}
+use Rattle.rules.specs.Rules.{left}
 use Rattle.rules.specs.declared.Ending.TheVariants.{Done, Spent, Full}
 use Rattle.rules.proofs.Rules.{fewer}
 use Rattle.search.specs.Internal.ColussiScan.{LentOrder, edge_after_rank}
@@ -14,7 +15,7 @@ use Rattle.search.proofs.ColussiScan.{shift_on, edge_early, edge_late, noholes_p
 use Rattle.journaled.proofs.Scanning.{Journals, bounds, journals_start, journals_end, journals_matched, journals_missed, journals_listed}
 use Rattle.journaled.proofs.Tables.{places, moves, in_letters}
 use Rattle.journaled.proofs.scan.scan.Goals as goal
-use Rattle.journaled.proofs.scan.scan.Goals.{then-d-i, else-d-i}
+use Rattle.journaled.proofs.scan.scan.Goals.{After-from-i}
 
 -- No comparison is due: the pattern occurs.
 occurs : (letters order : List ℕ) (m d : ℕ) (T : LentOrder letters order m d) {text : List ℕ} {cap : ℕ} {before after lent journal : List ℕ}
@@ -76,33 +77,49 @@ loop-b-preserved-then-agree c =
     journals_matched _ _ _ _ (places _ G L) c.loop-b.invariant fits _ due.0 c.from-o.ensures (rw c.from-o.ensures due.1) c.if-c-cap.false room
     (sym c.agree.ensures ∙ c.if-agree.true) refl
 
-pub overflow_add-h-then-d-i : goal.overflow_add-h-then-d-i
-overflow_add-h-then-d-i c = omega (arith, bounds _ _ _ _ (places _ c.requires.prepared c.requires.letters) c.loop-b.invariant)
+pub overflow_add-h-then-d-rank : goal.overflow_add-h-then-d-rank
+overflow_add-h-then-d-rank c = omega (arith, bounds _ _ _ _ (places _ c.requires.prepared c.requires.letters) c.loop-b.invariant)
 
-pub loop-b-smaller-else-agree : goal.loop-b-smaller-else-agree
-loop-b-smaller-else-agree c =
-    let G = c.requires.prepared in
-    let L = c.requires.letters in
-    let due = c.due.ensures.yes c.if-due.true in
-    rw c.from-b.ensures (fewer _ _ _ _ _ _ (omega arith) (shift_on _ _ _ _ (places _ G L) _ _ (moves _ G L) c.loop-b.i (omega arith)))
-
-pub loop-b-preserved-else-agree : goal.loop-b-preserved-else-agree
-loop-b-preserved-else-agree c =
+-- A window is left at a mismatch, with an edge and so many holes.
+missed : (c : After-from-i) {e' h' : ℕ}
+    → (let p = c.args.pattern.now in
+    let loop = c.loop-b in
+    e' ≡ edge_after_rank p.len p.noholes loop.b loop.i loop.e → h' ≡ loop.h + (loop.i + 1 - p.noholes)
+    → Journals c.args.letters.now p.len p.noholes (through p.classes c.args.text.now) c.args.cap c.args.positions.now loop.positions c.args.journal.now
+    (set loop.journal loop.c (2 * (loop.b + c.from-o.result))) (loop.b + c.from-b.result) c.from-i.result e' (loop.c + 1) h' loop.k)
+missed c edge holes =
     let G = c.requires.prepared in
     let L = c.requires.letters in
     let fits : c.loop-b.b + c.args.pattern.now.len ≤ length (through c.args.pattern.now.classes c.args.text.now) =
     omega (arith, length_through c.args.pattern.now.classes c.args.text.now) in
     let due = c.due.ensures.yes c.if-due.true in
     let room : c.loop-b.c < length c.loop-b.journal = omega (arith, bounds _ _ _ _ (places _ G L) c.loop-b.invariant) in
-    let p = c.args.pattern.now in
-    let edge : c.if-d-i.e ≡ edge_after_rank p.len p.noholes c.loop-b.b c.loop-b.i c.loop-b.e = elim c.if-d-i.branch [
-      | then-d-i w ↦ w.e-is ∙ edge_late _ _ _ _ (places _ G L) _ _ _ w.if-d-i.true
-      | else-d-i w ↦ w.e-is ∙ edge_early _ _ _ _ (places _ G L) _ _ _ w.if-d-i.false
-    ] in
-    let holes : c.if-d-i.h ≡ c.loop-b.h + (c.loop-b.i + 1 - p.noholes) =
-    elim c.if-d-i.branch [ then-d-i w ↦ w.h-is | else-d-i w ↦ omega arith ] in
     journals_missed _ _ _ _ (places _ G L) c.loop-b.invariant fits _ due.0 c.from-o.ensures (rw c.from-o.ensures due.1) c.if-c-cap.false room
     (sym c.agree.ensures ∙ c.if-agree.false) refl (moves _ G L) (rw c.from-b.ensures refl) c.from-i.ensures edge holes
+
+missed-less : (c : After-from-i)
+    → (let m = c.args.pattern.now.len in
+    let n = length c.args.text.now in
+    left m n (c.loop-b.b + c.from-b.result) c.from-i.result < left m n c.loop-b.b c.loop-b.i)
+missed-less c =
+    let T = places _ c.requires.prepared c.requires.letters in
+    let M = moves _ c.requires.prepared c.requires.letters in
+    let due = c.due.ensures.yes c.if-due.true in
+    rw c.from-b.ensures (fewer _ _ _ _ _ _ (omega arith) (shift_on _ _ _ _ T _ _ M c.loop-b.i (omega arith)))
+
+pub loop-b-smaller-then-d-rank : goal.loop-b-smaller-then-d-rank
+loop-b-smaller-then-d-rank c = missed-less (goal.at.loop-b-smaller-then-d-rank c).After-from-i
+
+pub loop-b-preserved-then-d-rank : goal.loop-b-preserved-then-d-rank
+loop-b-preserved-then-d-rank c = missed (goal.at.loop-b-preserved-then-d-rank c).After-from-i
+    (edge_late _ _ _ _ (places _ c.requires.prepared c.requires.letters) _ _ _ c.if-d-rank.true) refl
+
+pub loop-b-smaller-else-d-rank : goal.loop-b-smaller-else-d-rank
+loop-b-smaller-else-d-rank c = missed-less (goal.at.loop-b-smaller-else-d-rank c).After-from-i
+
+pub loop-b-preserved-else-d-rank : goal.loop-b-preserved-else-d-rank
+loop-b-preserved-else-d-rank c = missed (goal.at.loop-b-preserved-else-d-rank c).After-from-i
+    (edge_early _ _ _ _ (places _ c.requires.prepared c.requires.letters) _ _ _ c.if-d-rank.false) (omega arith)
 
 pub ended-requires-then-k-positions : goal.ended-requires-then-k-positions
 ended-requires-then-k-positions c = omega (arith, bounds _ _ _ _ (places _ c.requires.prepared c.requires.letters) c.loop-b.invariant)

@@ -8,6 +8,7 @@ use Rattle.pattern.specs.Letters.{word_of}
 use Rattle.pattern.specs.declared.Pattern.{Pattern}
 use Rattle.rules.specs.Internal.Passing.{Established}
 use Rattle.rules.specs.Colussi.{colussi_plan}
+use Rattle.rules.specs.Rules.{left}
 use Rattle.rules.specs.declared.Ending.TheVariants.{Done, Spent, Full}
 use Rattle.rules.proofs.Rules.{fewer}
 use Rattle.search.specs.Internal.ColussiScan.{edge_after_rank}
@@ -17,7 +18,7 @@ use Rattle.replay.proofs.Scanning.{Replays, replays_start, at_once, bounds, whol
 use Rattle.replay.proofs.Scanning.{replays_matched, replays_missed, replays_listed, full_at}
 use Rattle.replay.proofs.Tables.{whole, places, moves}
 use Rattle.replay.proofs.follow.follow.Goals as goal
-use Rattle.replay.proofs.follow.follow.Goals.{then-d-i, else-d-i, then-k-positions, else-k-positions}
+use Rattle.replay.proofs.follow.follow.Goals.{After-from-i, then-k-positions, else-k-positions}
 
 -- No comparison is due: the pattern occurs.
 occurs : (p : Pattern) (G : IsPrepared p) {n size : ℕ} {journal before after : List ℕ} {b i e c h k : ℕ}
@@ -69,35 +70,51 @@ loop-b-preserved-then-equal c =
     replays_matched _ _ _ _ (places _ G) c.loop-b.invariant (omega arith) _ due.0 c.from.ensures (rw c.from.ensures due.1) room c.if-v-b.false
     c.if-equal.true
 
-pub overflow_add-h-then-d-i : goal.overflow_add-h-then-d-i
-overflow_add-h-then-d-i c = omega (arith, bounds _ _ _ _ (places _ c.requires.prepared) c.loop-b.invariant)
+pub overflow_add-h-then-d-rank : goal.overflow_add-h-then-d-rank
+overflow_add-h-then-d-rank c = omega (arith, bounds _ _ _ _ (places _ c.requires.prepared) c.loop-b.invariant)
 
-pub bounds-pattern-i-else-equal : goal.bounds-pattern-i-else-equal
-bounds-pattern-i-else-equal c = omega (arith, bounds _ _ _ _ (places _ c.requires.prepared) c.loop-b.invariant)
+pub bounds-pattern-rank : goal.bounds-pattern-rank
+bounds-pattern-rank c = omega (arith, bounds _ _ _ _ (places _ c.requires.prepared) c.loop-b.invariant)
 
-pub bounds-pattern-i-else-equal-2 : goal.bounds-pattern-i-else-equal-2
-bounds-pattern-i-else-equal-2 c = omega (arith, bounds _ _ _ _ (places _ c.requires.prepared) c.loop-b.invariant)
+pub bounds-pattern-rank-else-equal : goal.bounds-pattern-rank-else-equal
+bounds-pattern-rank-else-equal c = omega (arith, bounds _ _ _ _ (places _ c.requires.prepared) c.loop-b.invariant)
 
-pub loop-b-smaller-else-equal : goal.loop-b-smaller-else-equal
-loop-b-smaller-else-equal c =
+-- A window is left at a mismatch, with an edge and so many holes.
+missed : (c : After-from-i) {e' h' : ℕ}
+    → (let p = c.args.pattern.now in
+    let loop = c.loop-b in
+    e' ≡ edge_after_rank p.len p.noholes loop.b loop.i loop.e → h' ≡ loop.h + (loop.i + 1 - p.noholes)
+    → Replays (word_of p) p.len p.noholes c.args.n c.args.size c.args.journal.now c.args.positions.now loop.positions
+    (loop.b + c.from-b.result) c.from-i.result e' (loop.c + 1) h' loop.k)
+missed c edge holes =
+    let G = c.requires.prepared in
+    let due = c.due.ensures.yes c.if-due.true in
+    let room : c.loop-b.c < length c.args.journal.now = omega (arith, bounds _ _ _ _ (places _ G) c.loop-b.invariant) in
+    replays_missed _ _ _ _ (places _ G) c.loop-b.invariant (omega arith) _ due.0 c.from.ensures (rw c.from.ensures due.1) room c.if-v-b.false
+    c.if-equal.false (moves _ G) (rw c.from-b.ensures refl) c.from-i.ensures edge holes
+
+missed-less : (c : After-from-i)
+    → (let m = c.args.pattern.now.len in
+    left m c.args.n (c.loop-b.b + c.from-b.result) c.from-i.result < left m c.args.n c.loop-b.b c.loop-b.i)
+missed-less c =
     let G = c.requires.prepared in
     let due = c.due.ensures.yes c.if-due.true in
     rw c.from-b.ensures (fewer _ _ _ _ _ _ (omega arith) (shift_on _ _ _ _ (places _ G) _ _ (moves _ G) c.loop-b.i (omega arith)))
 
-pub loop-b-preserved-else-equal : goal.loop-b-preserved-else-equal
-loop-b-preserved-else-equal c =
-    let G = c.requires.prepared in
-    let due = c.due.ensures.yes c.if-due.true in
-    let room : c.loop-b.c < length c.args.journal.now = omega (arith, bounds _ _ _ _ (places _ G) c.loop-b.invariant) in
-    let p = c.args.pattern.now in
-    let edge : c.if-d-i.e ≡ edge_after_rank p.len p.noholes c.loop-b.b c.loop-b.i c.loop-b.e = elim c.if-d-i.branch [
-      | then-d-i w ↦ w.e-is ∙ edge_late _ _ _ _ (places _ G) _ _ _ w.if-d-i.true
-      | else-d-i w ↦ w.e-is ∙ edge_early _ _ _ _ (places _ G) _ _ _ w.if-d-i.false
-    ] in
-    let holes : c.if-d-i.h ≡ c.loop-b.h + (c.loop-b.i + 1 - p.noholes) =
-    elim c.if-d-i.branch [ then-d-i w ↦ w.h-is | else-d-i w ↦ omega arith ] in
-    replays_missed _ _ _ _ (places _ G) c.loop-b.invariant (omega arith) _ due.0 c.from.ensures (rw c.from.ensures due.1) room c.if-v-b.false
-    c.if-equal.false (moves _ G) (rw c.from-b.ensures refl) c.from-i.ensures edge holes
+pub loop-b-smaller-then-d-rank : goal.loop-b-smaller-then-d-rank
+loop-b-smaller-then-d-rank c = missed-less (goal.at.loop-b-smaller-then-d-rank c).After-from-i
+
+pub loop-b-preserved-then-d-rank : goal.loop-b-preserved-then-d-rank
+loop-b-preserved-then-d-rank c =
+    missed (goal.at.loop-b-preserved-then-d-rank c).After-from-i (edge_late _ _ _ _ (places _ c.requires.prepared) _ _ _ c.if-d-rank.true) refl
+
+pub loop-b-smaller-else-d-rank : goal.loop-b-smaller-else-d-rank
+loop-b-smaller-else-d-rank c = missed-less (goal.at.loop-b-smaller-else-d-rank c).After-from-i
+
+pub loop-b-preserved-else-d-rank : goal.loop-b-preserved-else-d-rank
+loop-b-preserved-else-d-rank c =
+    missed (goal.at.loop-b-preserved-else-d-rank c).After-from-i (edge_early _ _ _ _ (places _ c.requires.prepared) _ _ _ c.if-d-rank.false)
+    (omega arith)
 
 pub ended-requires-then-k-size : goal.ended-requires-then-k-size
 ended-requires-then-k-size c = omega (arith, bounds _ _ _ _ (places _ c.requires.prepared) c.loop-b.invariant)
