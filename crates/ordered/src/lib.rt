@@ -1,13 +1,12 @@
 // The search in a custom order of comparison: document 02's request C-20.
 #![tactic(auto)]
 
-mod entries;
 mod scan;
 
 ghost use Rattle.std.specs.Prelude.{◌≡◌, ℕ, ◌≤◌, ◌<◌, length, take};
 ghost use Rattle.words.specs.Tables.{nohole};
-ghost use Rattle.admission.specs.Admitted.{longest_text};
-ghost use Rattle.classes.specs.Classes.{class_count, through, identity};
+ghost use Rattle.admission.specs.Admitted.{IsAdmitted};
+ghost use Rattle.classes.specs.Classes.{through, identity};
 ghost use Rattle.custom.specs.Order.{Arrangement};
 ghost use Rattle.custom.specs.Custom.{custom};
 ghost use Rattle.intake.specs.Sizes.{longest_pattern};
@@ -24,6 +23,7 @@ use ones::WORDS;
 use pattern::{LONGEST_PATTERN, Pattern, RANKS};
 use refusal::Refusal;
 pub use rules::{Ending, Report};
+use scan::Text;
 pub use search::SearchAnswer;
 
 // Whether an order of the m places of a pattern may be searched in, in a text of n bytes, by whether `is_prepared` finds the pattern prepared.
@@ -39,38 +39,27 @@ fn door(prepared: bool, m: usize, order: &[u8], n: usize) -> Admission
     admit(true, n)
 }
 
-// The scan for the letters of the first m bytes, with the tables of their order.
-fn scan_for<'a>(
-    bytes: &'a [u8],
-    m: usize,
-    classes: &'a [u8],
-    marks: &'a [u64; WORDS],
-    order: &'a [u8],
-    text: &'a [u8],
-    cap: u64,
-    positions: &mut [u32],
-) -> Report
-    requires le_m { (1 ≤ m) × (m ≤ longest_pattern) × (m ≤ length bytes.now) × (length classes.now ≡ class_count) }
-    requires arrangement { Arrangement m order.now × (length text.now ≤ longest_text) }
-    requires by_index { (p : ℕ) → p < longest_pattern → marked marks.now p ≡ nohole (through classes.now (take m bytes.now)) p }
-    ensures { Reported (through classes.now (take m bytes.now)) (custom order.now (through classes.now (take m bytes.now)) (through classes.now text.now) cap (length positions.old)) positions.old positions.new result }
+// The scan for a pattern's letters in those of a text, with the tables of their order.
+#[tactic(auto, using(crate::proofs::Lent::short_enough))]
+fn scan_for(pattern: &Pattern, order: &[u8], text: &[u8], cap: u64, positions: &mut [u32]) -> Report
+    requires admitted { IsAdmitted pattern.now (length text.now) }
+    requires arrangement { Arrangement pattern.now.len order.now }
+    ensures { Reported (word_of pattern.now) (custom order.now (word_of pattern.now) (text_of pattern.now text.now) cap (length positions.old)) positions.old positions.new result }
 {
+    let m = pattern.len;
+    let bytes = &pattern.bytes[..m];
     let mut letters = [0u8; LONGEST_PATTERN];
-    put_letters(&bytes[..m], classes, &mut letters);
+    put_letters(bytes, &pattern.classes, &mut letters);
+    let letters = &letters[..m];
     let mut shifts = [0u16; RANKS];
-    fill_shifts(&letters[..m], order, &mut shifts);
+    fill_shifts(letters, order, &mut shifts);
     let mut among = [0u16; RANKS];
-    scan::fill_among(order, marks, &mut among);
-    scan::scan(
-        &letters[..m],
-        order,
-        &shifts,
-        &among,
-        classes,
-        text,
-        cap,
-        positions,
-    )
+    scan::fill_among(order, &pattern.marks, &mut among);
+    let text = Text {
+        classes: &pattern.classes,
+        bytes: text,
+    };
+    scan::scan(letters, order, &shifts, &among, text, cap, positions)
 }
 
 // Searches a text in an order of the caller's own, with at most `cap` comparisons: entry i is the place of the pattern that rank i compares. It
@@ -101,16 +90,7 @@ pub fn ordered<'a>(
     );
     match door {
         Admission::Admitted => {
-            let report = scan_for(
-                &pattern.bytes,
-                pattern.len,
-                &pattern.classes,
-                &pattern.marks,
-                order,
-                text,
-                cap,
-                positions,
-            );
+            let report = scan_for(&pattern, order, text, cap, positions);
             SearchAnswer::Ran(report)
         }
         Admission::Refused(why) => SearchAnswer::Refused(why),
