@@ -7,7 +7,7 @@ ghost use Rattle.prefixes.specs.CarriedOn.{comparisons};
 ghost use Rattle.lengths.specs.Internal.Steps.{letters_of, Tables};
 ghost use Rattle.lengths.specs.Internal.Scan.{Scans, Carries};
 
-use super::steps::{Spot, Text, begin, extend, leave, stays};
+use super::steps::{Spot, Text, begin, extend, extend_any, leave, stays};
 
 // How many windows of m letters end before a text of n does. Those of one letter are not asked for: there is nothing to compare in them once it is
 // found.
@@ -95,7 +95,7 @@ fn rest(
             return again;
         }
         let end = m.min(n - window);
-        let r = extend(letters, text, window, matched, end);
+        let r = extend_any(letters, text, window, matched, end);
         let s = leave(hmax, lengths, window, r, (r + 1).min(n - window));
         again += stays(s, r, end);
         b = window + s;

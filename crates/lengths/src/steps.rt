@@ -66,17 +66,32 @@ pub fn begin(x: u8, text: Text, lengths: &mut [u16], b: usize, i: usize) -> Spot
     }
 }
 
-// The first place from `from` on and below `end` whose letter differs from the text's in window b, or `end`.
+// The first place from `from` on and below `end` whose letter differs from the text's in window b, or `end`. There is a place to compare, so that
+// the end is tested for only after a comparison.
 pub fn extend(letters: &[u8], text: Text, b: usize, from: usize, end: usize) -> usize
+    requires { (from < end) × (end ≤ length letters.now) × (b + end ≤ length text.bytes.now) }
+    ensures { Extends letters.now (letters_of text.entry) b from end result }
+{
+    let mut p = from;
+    while text.agrees(letters[p], b + p) {
+        p += 1;
+        if p == end {
+            break;
+        }
+    }
+    p
+}
+
+// The same where there may be none.
+pub fn extend_any(letters: &[u8], text: Text, b: usize, from: usize, end: usize) -> usize
     requires { (from ≤ end) × (end ≤ length letters.now) × (b + end ≤ length text.bytes.now) }
     ensures { Extends letters.now (letters_of text.entry) b from end result }
 {
-    for p in from..end {
-        if !text.agrees(letters[p], b + p) {
-            return p;
-        }
+    if from < end {
+        extend(letters, text, b, from, end)
+    } else {
+        from
     }
-    end
 }
 
 // 1, if the letters at r were compared and the window is left by at most r: the text's letter there is compared again. Every other comparison takes

@@ -18,7 +18,7 @@ overflow_sub-i c = omega (arith, next_entry c.requires.tables)
 pub loop-b-preserved-then-r-first : goal.loop-b-preserved-then-r-first
 loop-b-preserved-then-r-first c =
     let T = c.requires.tables in
-    let here = ends_before c.windows_inside-last.ensures c.begin-window.result.window c.if-last-window.false in
+    let here = ends_before c.windows_inside-last.ensures c.begin-window.result.window (omega arith) in
     let S = scans_begun _ _ _ T.some c.loop-b.invariant.scans c.begin-window.ensures in
     record {
       scans = scans_left _ _ _ T.some T S (omega (arith, length_letters c.args.text)) c.extend-r.ensures (omega (arith, length_letters c.args.text))
@@ -38,7 +38,7 @@ leave-s-requires-clause-by_index c k l = from_k c.requires.tables _ c.extend-r.e
 pub loop-b-preserved : goal.loop-b-preserved
 loop-b-preserved c =
     let T = c.requires.tables in
-    let here = ends_before c.windows_inside-last.ensures c.begin-window.result.window c.if-last-window.false in
+    let here = ends_before c.windows_inside-last.ensures c.begin-window.result.window (omega arith) in
     let S = scans_begun _ _ _ T.some c.loop-b.invariant.scans c.begin-window.ensures in
     rw c.saturating_sub-i.ensures record {
       scans = scans_left _ _ _ T.some T S (omega (arith, length_letters c.args.text)) c.extend-r.ensures (omega (arith, length_letters c.args.text))

@@ -25,7 +25,7 @@ loop-b-preserved c =
           let sum : again + (c.loop-b.again + c.stays-again.result) ≡ again + c.loop-b.again + c.stays-again.result = omega arith in
           rw sum
           (scans_left _ _ before T.some T (scans_begun _ _ before T.some (c.loop-b.invariant.scans before again S) c.begin-window.ensures)
-          (omega (arith, c.min-end.ensures, length_letters c.args.text)) c.extend-r.ensures
+          (omega (arith, c.min-end.ensures, length_letters c.args.text)) c.extend_any-r.ensures
           (omega (arith, c.min.ensures, length_letters c.args.text)) c.leave-s.ensures c.stays-again.ensures);
       upto = omega arith;
       inside = omega (arith, c.min-end.ensures, c.min.ensures);
