@@ -7,7 +7,7 @@ ghost use Rattle.lengths.specs.Internal.Steps.{letters_of, Passes, Begins, Exten
 
 use classes::CLASSES;
 
-// A text, and the classes through which its bytes are read.
+// A text, and the classes that its bytes are read through.
 #[derive(Clone, Copy)]
 pub struct Text<'a> {
     pub classes: &'a [u8; CLASSES],

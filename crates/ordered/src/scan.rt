@@ -3,7 +3,6 @@
 ghost use Rattle.std.specs.Prelude.{◌≡◌, ℕ, ◌+◌, ◌≤◌, ◌<◌, eqb, length, get_or};
 ghost use Rattle.words.specs.Tables.{letter};
 ghost use Rattle.admission.specs.Admitted.{longest_text};
-ghost use Rattle.classes.specs.Classes.{through};
 ghost use Rattle.custom.specs.Custom.{custom};
 ghost use Rattle.intake.specs.Sizes.{longest_pattern};
 ghost use Rattle.rules.specs.Report.{Reported};
@@ -27,7 +26,7 @@ pub fn fill_among(order: &[u8], marks: &[u64; WORDS], among: &mut [u16])
     }
 }
 
-// A text, and the classes through which its bytes are read.
+// A text, and the classes that its bytes are read through.
 #[derive(Clone, Copy)]
 pub struct Text<'a> {
     pub classes: &'a [u8; CLASSES],
