@@ -2,6 +2,7 @@
 use Prim.Native.Nat.{ℕ, ◌≤◌, ◌<◌}
 use mathlib.Core.Path.{◌≡◌, refl, sym, ap, ◌∙◌}
 use mathlib.Core.List.{List, ◌++◌}
+use Rattle.std.specs.Prelude.{Ok, Err}
 use native.Mathlib.Nat.{zero-add}
 use lib.ListN.{length, drop}
 use borrow.Author.Tests.{lt-ltb, le-ltb}
@@ -17,7 +18,6 @@ use Rattle.job.specs.Limits.{buffer_size, list_size}
 use Rattle.job.specs.Printed.{refused_line, search_lines, printed}
 use Rattle.job.specs.Answer.{answer_of, buffer_after}
 use Rattle.job.specs.Internal.Writing.{Puts}
-use Rattle.job.specs.declared.JobAnswer.TheVariants.{Wrote, ShortBuffer}
 
 -- ---- What is printed
 
@@ -45,12 +45,12 @@ module _ (input : List ℕ) {r : Parsed} (answered : (r ≡ parsed input) × IfP
 -- ---- The answer and the buffer
 
 module _ (input lent : List ℕ) where
-  pub short_buffer : length lent < buffer_size → (ShortBuffer ≡ answer_of input (length lent)) × (lent ≡ buffer_after input lent)
+  pub short_buffer : length lent < buffer_size → (Err record {} ≡ answer_of input (length lent)) × (lent ≡ buffer_after input lent)
   unfolding answer_of buffer_after
   short_buffer l = (rw (lt-ltb (length lent) buffer_size l, answer_of) refl, rw (lt-ltb (length lent) buffer_size l, buffer_after) refl)
 
   module _ (room : buffer_size ≤ length lent) where
-    answer_wrote : answer_of input (length lent) ≡ Wrote (length (printed input))
+    answer_wrote : answer_of input (length lent) ≡ Ok (length (printed input))
     unfolding answer_of
     answer_wrote = rw (le-ltb (length lent) buffer_size room, answer_of) refl
 
@@ -60,8 +60,8 @@ module _ (input lent : List ℕ) where
 
     -- The bytes s were put at the buffer's start.
     pub wrote : {s after : List ℕ} {r : ℕ} → printed input ≡ s → Puts lent after 0 s r
-        → (Wrote r ≡ answer_of input (length lent)) × (after ≡ buffer_after input lent)
+        → (Ok r ≡ answer_of input (length lent)) × (after ≡ buffer_after input lent)
     wrote {s = s} e P = (
-      rw (answer_wrote, e) (ap Wrote (P.place ∙ zero-add (length s))),
+      rw (answer_wrote, e) (ap Ok (P.place ∙ zero-add (length s))),
       rw (buffer_printed, e) (rw zero-add at P.bytes),
     )

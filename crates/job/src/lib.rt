@@ -2,7 +2,6 @@
 #![tactic(auto)]
 
 mod lines;
-mod text;
 
 ghost use Rattle.std.specs.Prelude.{◌≡◌, ◌≤◌, length};
 ghost use Rattle.intake.specs.Outcomes.{Preparable};
@@ -19,18 +18,25 @@ use input::Parsed;
 use preparation::SCRATCH;
 use rules::NO_CAP;
 use search::SearchAnswer;
+use std::error::Error;
+use std::fmt;
 
 // The entries of the search's list.
 pub const LIST: usize = 8192;
 // The bytes of a buffer that has room for the longest output.
 pub const BUFFER: usize = 196608;
 
-// The number of bytes written, or that the buffer is too short for the longest output.
-#[derive(Clone, Copy)]
-pub enum JobAnswer {
-    Wrote(usize),
-    ShortBuffer,
+// The buffer is too short for the longest output.
+#[derive(Debug, Clone, Copy, PartialEq, Eq)]
+pub struct ShortBuffer;
+
+impl fmt::Display for ShortBuffer {
+    fn fmt<W: fmt::Write>(&self, f: &mut fmt::Formatter<W>) -> fmt::Result {
+        f.write_str("the buffer is too short")
+    }
 }
+
+impl Error for ShortBuffer {}
 
 // A pattern that preparation takes, in a text of at most LONGEST_TEXT bytes: searched, and its report written.
 fn searched(bytes: &[u8], text: &[u8], out: &mut [u8]) -> usize
@@ -48,21 +54,20 @@ fn searched(bytes: &[u8], text: &[u8], out: &mut [u8]) -> usize
     }
 }
 
-// Writes what document 01 prints for the input at the start of the buffer, which needs BUFFER bytes; the rest of it is unchanged. A
-// shorter buffer is unchanged.
-pub fn job(input: &[u8], out: &mut [u8]) -> JobAnswer
+// Writes what document 01 prints for the input at the start of the buffer, and answers the number of bytes written; the rest of the buffer
+// is unchanged. A buffer shorter than BUFFER bytes is unchanged.
+pub fn job(input: &[u8], out: &mut [u8]) -> Result<usize, ShortBuffer>
     ensures answer { result ≡ answer_of input.now (length out.old) }
     ensures buffer { out.new ≡ buffer_after input.now out.old }
 {
     if out.len() < BUFFER {
-        return JobAnswer::ShortBuffer;
+        return Err(ShortBuffer);
     }
-    let parsed = input::parse(input);
-    match parsed {
+    Ok(match input::parse(input) {
         Parsed::Parts(len) => {
             let end = 1 + len;
-            JobAnswer::Wrote(searched(&input[1..end], &input[end..], out))
+            searched(&input[1..end], &input[end..], out)
         }
-        Parsed::Refused(why) => JobAnswer::Wrote(lines::put_refused(out, why)),
-    }
+        Parsed::Refused(why) => lines::put_refused(out, why),
+    })
 }

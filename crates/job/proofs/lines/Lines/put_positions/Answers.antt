@@ -1,0 +1,12 @@
+-- One more position's line is written after those before it.
+use Rattle.std.proofs.Common.{arith}
+use Rattle.job.proofs.Writing.{writes_more}
+use Rattle.job.proofs.Printed.{next_position}
+use Rattle.job.proofs.lines.Lines.put_positions.Goals as goal
+
+pub loop-position-preserved : goal.loop-position-preserved
+loop-position-preserved c = record {
+  writes = rw (next_position c.args.positions.now c.loop-position.position-index c.loop-position-test.true)
+      (writes_more c.loop-position.invariant.writes (rw c.from.ensures at c.put_line.ensures.writes));
+  upper_bound = omega arith;
+}
