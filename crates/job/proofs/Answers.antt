@@ -4,6 +4,7 @@ use mathlib.Core.Path.{◌≡◌, refl, sym, ap, ◌∙◌}
 use mathlib.Core.List.{List, ◌++◌}
 use Rattle.std.specs.Prelude.{Ok, Err}
 use native.Mathlib.Nat.{zero-add}
+use native.Mathlib.Omega.{arith}
 use lib.ListN.{length, drop}
 use borrow.Author.Tests.{lt-ltb, le-ltb}
 use Rattle.refusal.specs.declared.Refusal.{Refusal}
@@ -18,6 +19,7 @@ use Rattle.job.specs.Limits.{buffer_size, list_size}
 use Rattle.job.specs.Printed.{refused_line, search_lines, printed}
 use Rattle.job.specs.Answer.{answer_of, buffer_after}
 use Rattle.job.specs.Internal.Writing.{Puts}
+use Rattle.job.proofs.Writing.{length_kept}
 
 -- ---- What is printed
 
@@ -59,9 +61,12 @@ module _ (input lent : List ℕ) where
     buffer_printed = rw (le-ltb (length lent) buffer_size room, buffer_after) refl
 
     -- The bytes s were put at the buffer's start.
-    pub wrote : {s after : List ℕ} {r : ℕ} → printed input ≡ s → Puts lent after 0 s r
-        → (Ok r ≡ answer_of input (length lent)) × (after ≡ buffer_after input lent)
-    wrote {s = s} e P = (
-      rw (answer_wrote, e) (ap Ok (P.place ∙ zero-add (length s))),
-      rw (buffer_printed, e) (rw zero-add at P.bytes),
-    )
+    module _ {s after : List ℕ} {r : ℕ} (e : printed input ≡ s) (P : Puts lent after 0 s r) where
+      pub wrote_answer : Ok r ≡ answer_of input (length lent)
+      wrote_answer = rw (answer_wrote, e) (ap Ok (P.place ∙ zero-add (length s)))
+
+      pub wrote_buffer : after ≡ buffer_after input lent
+      wrote_buffer = rw (buffer_printed, e) (rw zero-add at P.bytes)
+
+      pub wrote_within : r ≤ length after
+      wrote_within = omega (arith, P.inside, length_kept P)

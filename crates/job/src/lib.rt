@@ -3,7 +3,7 @@
 
 mod lines;
 
-ghost use Rattle.std.specs.Prelude.{◌≡◌, ◌≤◌, length};
+ghost use Rattle.std.specs.Prelude.{◌≡◌, ◌≤◌, length, IfOk};
 ghost use Rattle.intake.specs.Outcomes.{Preparable};
 ghost use Rattle.input.specs.Parsed.{longest_text};
 ghost use Rattle.rules.specs.Rules.{no_cap};
@@ -59,6 +59,7 @@ fn searched(bytes: &[u8], text: &[u8], out: &mut [u8]) -> usize
 pub fn job(input: &[u8], out: &mut [u8]) -> Result<usize, ShortBuffer>
     ensures answer { result ≡ answer_of input.now (length out.old) }
     ensures buffer { out.new ≡ buffer_after input.now out.old }
+    ensures within { IfOk result (λ n. n ≤ length out.new) }
 {
     if out.len() < BUFFER {
         return Err(ShortBuffer);
