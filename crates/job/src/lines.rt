@@ -34,7 +34,7 @@ impl Lines<'_> {
     }
 
     // A word, a number and a newline.
-    #[tactic(auto, using(crate::proofs::Decimals::length_decimal, crate::proofs::Writing::length_kept), unfolding(crate::specs::Text::ascii))]
+    #[tactic(auto, using(crate::proofs::Decimals::length_decimal, crate::proofs::Writing::length_kept))]
     fn put_line(&mut self, word: &[u8], n: u64)
         requires { self.old.len + length word.now + 21 ≤ length self.old.out.now }
         ensures writes { Writes self.old self.new (word.now ++ (decimal n ++ ascii "\n")) }
@@ -59,7 +59,7 @@ impl Lines<'_> {
     }
 
     // The positions, one a line.
-    #[tactic(auto, using(crate::proofs::Writing::length_kept, crate::proofs::Writing::writes_nothing), unfolding(crate::specs::Printed::position_lines))]
+    #[tactic(auto, using(crate::proofs::Writing::length_kept))]
     fn put_positions(&mut self, positions: &[u32])
         requires { self.old.len + 21 * length positions.now ≤ length self.old.out.now }
         ensures { Writes self.old self.new (position_lines positions.now) }
