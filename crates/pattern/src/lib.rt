@@ -18,7 +18,7 @@ pub use sizes::RANKS;
 
 // Document 01's card: the pattern, its classes and its tables. The entries past those defined are 0.
 #[repr(C)]
-#[derive(Clone, Copy)]
+#[derive(Clone, Copy, PartialEq, Eq)]
 pub struct Pattern {
     // m, from 1 to 256
     pub len: usize,
