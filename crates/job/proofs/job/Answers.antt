@@ -1,6 +1,6 @@
--- What `parse` finds in the input is searched or refused, and written at the buffer's start.
+-- What the search tells is written at the buffer's start.
 use Rattle.std.proofs.Common.{rules}
-use Rattle.job.proofs.Answers.{refuses, searches, short_buffer, wrote_answer, wrote_buffer, wrote_within}
+use Rattle.job.proofs.Answers.{short_buffer, wrote_answer, wrote_buffer, wrote_within}
 use Rattle.job.proofs.job.Goals as goal
 
 pub returns-then-out-lt-BUFFER : goal.returns-then-out-lt-BUFFER
@@ -8,24 +8,24 @@ returns-then-out-lt-BUFFER c =
     let short = short_buffer c.args.input.now c.args.out.now c.if-out-lt-BUFFER.true in
     record { answer = short.0; buffer = short.1; within = search rules }
 
-pub returns-in-Parts : goal.returns-in-Parts
-returns-in-Parts c =
+pub returns-in-Ok : goal.returns-in-Ok
+returns-in-Ok c =
     let input = c.args.input.now in
     let lent = c.args.out.now in
     let room = c.if-out-lt-BUFFER.false in
-    let lines = searches input (c.parse.ensures.answer, c.parse.ensures.meaning) c.in-Parts.len c.in-Parts.is in
+    let lines = c.in-Ok.ensures.1 in
     record {
-      answer = wrote_answer input lent room lines c.searched.ensures;
-      buffer = wrote_buffer input lent room lines c.searched.ensures;
-      within = wrote_within input lent room lines c.searched.ensures;
+      answer = wrote_answer input lent room lines c.put_report.ensures;
+      buffer = wrote_buffer input lent room lines c.put_report.ensures;
+      within = wrote_within input lent room lines c.put_report.ensures;
     }
 
-pub returns-in-Refused : goal.returns-in-Refused
-returns-in-Refused c =
+pub returns-in-Err : goal.returns-in-Err
+returns-in-Err c =
     let input = c.args.input.now in
     let lent = c.args.out.now in
     let room = c.if-out-lt-BUFFER.false in
-    let lines = refuses input (c.parse.ensures.answer, c.parse.ensures.meaning) c.in-Refused.is in
+    let lines = c.in-Err.ensures in
     record {
       answer = wrote_answer input lent room lines c.put_refused.ensures;
       buffer = wrote_buffer input lent room lines c.put_refused.ensures;
