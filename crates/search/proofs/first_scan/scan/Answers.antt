@@ -68,7 +68,8 @@ pub loop-b-smaller-then-b-last : goal.loop-b-smaller-then-b-last
 loop-b-smaller-then-b-last c =
     let n = length (through c.args.pattern.now.classes c.args.text.now) in
     let spot = c.ahead-spot.result in
-    let stays = no_more c.args.pattern.now.len n c.leave-after.result.window c.leave-after.result.rank spot.window spot.rank c.if-i-eq0.true c.ahead-spot.ensures.from in
+    let stays = no_more c.args.pattern.now.len n c.leave-after.result.window c.leave-after.result.rank spot.window spot.rank
+    c.if-i-eq0.true c.ahead-spot.ensures.from in
     omega (arith, missed-less (goal.at.loop-b-smaller-then-b-last c).After-leave-after, stays)
 
 pub loop-b-preserved-then-b-last : goal.loop-b-preserved-then-b-last
