@@ -1,34 +1,19 @@
--- A report that crosses to C is read back as it was, so what is promised of an answer holds of what C receives. Assumes nothing.
+-- An answer that crosses to C is read back as it was, so what is promised of it holds of what C receives. Assumes nothing.
 use Prim.Native.Nat.{ℕ, ◌<◌}
 use mathlib.Core.Path.{◌≡◌, refl}
 use mathlib.Core.Logic.{◌↔◌}
 use native.Mathlib.Omega.{arith}
-use Rattle.archive.specs.Promise as archive-promises
-use Rattle.archive.specs.declared.RecordAnswer.{RecordAnswer}
-use Rattle.archive.specs.declared.RecordAnswer.TheVariants as records
-use Rattle.correct.specs.Promise.{IfUpdated}
-use Rattle.correct.specs.declared.CorrectAnswer.{CorrectAnswer}
-use Rattle.correct.specs.declared.CorrectAnswer.TheVariants as corrections
-use Rattle.directory.specs.declared.BoundsAnswer.{BoundsAnswer}
-use Rattle.directory.specs.declared.BoundsAnswer.TheVariants as bounds
-use Rattle.directory.specs.declared.DirectoryAnswer.{DirectoryAnswer}
-use Rattle.directory.specs.declared.DirectoryAnswer.TheVariants as directories
+use Rattle.std.specs.Prelude.{Option, Some, None, Result, Ok, Err, IsOk, IfOk, IfSome}
+use Rattle.directory.specs.declared.Bounds.{Bounds}
+use Rattle.directory.specs.declared.Directory.{Directory}
+use Rattle.endings.proofs.Back.{ending_back}
 use Rattle.first.specs.declared.FirstAnswer.{FirstAnswer}
-use Rattle.first.specs.declared.FirstAnswer.TheVariants.{At, Absent}
-use Rattle.first.specs.declared.FirstAnswer.TheVariants as firsts
-use Rattle.intake.specs.declared.Outcome.{Outcome}
-use Rattle.intake.specs.declared.Outcome.TheVariants as outcomes
-use Rattle.lengths.specs.declared.LengthsAnswer.{LengthsAnswer}
-use Rattle.lengths.specs.declared.LengthsAnswer.TheVariants as lengths
-use Rattle.lengths.specs.Promise.{IfCounted}
+use Rattle.pattern.specs.declared.Built.{Built}
+use Rattle.refusal.specs.declared.Refusal.{Refusal}
 use Rattle.refusal.proofs.NotZero.{number_not_0}
-use Rattle.rules.specs.declared.Ending.{Ending}
-use Rattle.rules.specs.declared.Ending.TheVariants.{Done, Spent, Full}
 use Rattle.rules.specs.declared.Report.{Report}
-use Rattle.search.specs.declared.SearchAnswer.{SearchAnswer}
-use Rattle.search.specs.declared.SearchAnswer.TheVariants.{Ran, Refused}
-use Rattle.search.specs.Promise.{IfRan}
-use Rattle.carried.specs.Carried.{outcome_number, ending_number, ending_window, ending_of, carried_report, carried, report_in, carried_first, first_in, carried_lengths, carried_update, no_such_record, carried_record, Searched, carried_directory, directory_in, carried_bounds, bounds_in}
+use Rattle.carried.specs.Carried.{carried_preparation, carried_report, carried, report_in, first_found, carried_first, first_in, carried_lengths, carried_update, no_such_record, carried_record, Searched, carried_directory, directory_in, carried_bounds, bounds_in}
+use Rattle.carried.specs.declared.Preparation.{Preparation}
 use Rattle.carried.specs.declared.SearchReport.{SearchReport}
 use Rattle.carried.specs.declared.First.{First}
 use Rattle.carried.specs.declared.Lengths.{Lengths}
@@ -36,77 +21,77 @@ use Rattle.carried.specs.declared.Update.{Update}
 use Rattle.carried.specs.declared.ArchiveDirectory.{ArchiveDirectory}
 use Rattle.carried.specs.declared.RecordBounds.{RecordBounds}
 
--- What C receives with refusal 0 was ready.
-pub ready_is_0 : (o : Outcome) → (outcome_number o ≡ 0) ↔ (o ≡ outcomes.Ready)
-ready_is_0 outcomes.Ready = (λ e. refl, λ e. refl)
-ready_is_0 (outcomes.Refused why) = (λ e. absurd (number_not_0 why e), λ e. absurd (let z : ◌≡◌ {A = ℕ} 0 1 = cc in omega arith))
-
-ending_back : (e : Ending) → ending_of (ending_number e) (ending_window e) ≡ e
-ending_back Done = refl
-ending_back (Spent b) = refl
-ending_back (Full b) = refl
+-- What C receives with refusal 0 was prepared.
+pub prepared_is_0 : (a : Result Built Refusal) → ((carried_preparation a).refusal ≡ 0) ↔ IsOk a
+unfolding carried_preparation
+prepared_is_0 (Ok b) = (λ e. refl, λ e. refl)
+prepared_is_0 (Err why) = (λ e. absurd (number_not_0 why e), λ e. absurd (let z : ◌≡◌ {A = ℕ} 0 1 = cc in omega arith))
 
 report_back : (r : Report) → report_in (carried_report r) ≡ r
 report_back r = rw (ending_back r.ending) refl
 
 -- What is promised of an answer's report holds of what C receives with refusal 0.
-pub promised_to_c : (P : Report → Type 0) (a : SearchAnswer) {r : SearchReport} → r ≡ carried a → IfRan P a → r.refusal ≡ 0 → P (report_in r)
+pub promised_to_c : (P : Report → Type 0) (a : Result Report Refusal) {r : SearchReport} → r ≡ carried a → IfOk a P → r.refusal ≡ 0 → P (report_in r)
 promised_to_c P a e holds none = rw e (of a holds (rw e at none))
   where
-    of : (a : SearchAnswer) → IfRan P a → (carried a).refusal ≡ 0 → P (report_in (carried a))
-    of (Ran r) holds z = rw (report_back r) holds
-    of (Refused why) holds z = absurd (number_not_0 why z)
+    of : (a : Result Report Refusal) → IfOk a P → (carried a).refusal ≡ 0 → P (report_in (carried a))
+    of (Ok r) holds z = rw (report_back r) holds
+    of (Err why) holds z = absurd (number_not_0 why z)
 
--- The answer of the search for the first position is read back as it was, beside refusal 0.
-pub first_back : (a : FirstAnswer) {r : First} → r ≡ carried_first a → r.refusal ≡ 0 → first_in r ≡ a
-first_back a e none = rw e (of a (rw e at none))
+-- What is promised of the search for the first position holds of what C receives with refusal 0.
+pub first_promised_to_c : (P : FirstAnswer → Type 0) (a : Result FirstAnswer Refusal) {r : First} → r ≡ carried_first a → IfOk a P → r.refusal ≡ 0
+    → P (first_in r)
+first_promised_to_c P a e holds none = rw e (of a holds (rw e at none))
   where
-    of : (a : FirstAnswer) → (carried_first a).refusal ≡ 0 → first_in (carried_first a) ≡ a
-    of (At b count) z = refl
-    of (Absent count) z = refl
-    of (firsts.Refused why) z = absurd (number_not_0 why z)
+    back : (o : Option ℕ) (count : ℕ) → first_in (first_found o count) ≡ record { position = o; count = count }
+    back (Some b) count = refl
+    back None count = refl
+
+    of : (a : Result FirstAnswer Refusal) → IfOk a P → (carried_first a).refusal ≡ 0 → P (first_in (carried_first a))
+    of (Ok r) holds z = rw (back r.position r.count) holds
+    of (Err why) holds z = absurd (number_not_0 why z)
 
 -- What is promised of a count of the call for prefix lengths holds of the one that C receives with refusal 0.
-pub count_promised_to_c : (P : ℕ → Type 0) (a : LengthsAnswer) {r : Lengths} → r ≡ carried_lengths a → IfCounted P a → r.refusal ≡ 0 → P r.count
+pub count_promised_to_c : (P : ℕ → Type 0) (a : Result ℕ Refusal) {r : Lengths} → r ≡ carried_lengths a → IfOk a P → r.refusal ≡ 0 → P r.count
 count_promised_to_c P a e holds none = rw e (of a holds (rw e at none))
   where
-    of : (a : LengthsAnswer) → IfCounted P a → (carried_lengths a).refusal ≡ 0 → P (carried_lengths a).count
-    of (lengths.Counted count) holds z = holds
-    of (lengths.Refused why) holds z = absurd (number_not_0 why z)
+    of : (a : Result ℕ Refusal) → IfOk a P → (carried_lengths a).refusal ≡ 0 → P (carried_lengths a).count
+    of (Ok count) holds z = holds
+    of (Err why) holds z = absurd (number_not_0 why z)
 
 -- What is promised of the number of entries in use holds of the one that C receives with refusal 0.
-pub used_promised_to_c : (P : ℕ → Type 0) (a : CorrectAnswer) {r : Update} → r ≡ carried_update a → IfUpdated P a → r.refusal ≡ 0 → P r.used
+pub used_promised_to_c : (P : ℕ → Type 0) (a : Result ℕ Refusal) {r : Update} → r ≡ carried_update a → IfOk a P → r.refusal ≡ 0 → P r.used
 used_promised_to_c P a e holds none = rw e (of a holds (rw e at none))
   where
-    of : (a : CorrectAnswer) → IfUpdated P a → (carried_update a).refusal ≡ 0 → P (carried_update a).used
-    of (corrections.Updated used) holds z = holds
-    of (corrections.Refused why) holds z = absurd (number_not_0 why z)
+    of : (a : Result ℕ Refusal) → IfOk a P → (carried_update a).refusal ≡ 0 → P (carried_update a).used
+    of (Ok used) holds z = holds
+    of (Err why) holds z = absurd (number_not_0 why z)
 
 -- ---- Archives
 
 -- What is promised of the report of a record's search holds of what C receives, where one ran.
-pub record_promised_to_c : (P : Report → Type 0) (a : RecordAnswer) {r : SearchReport} → r ≡ carried_record a → archive-promises.IfRan P a → Searched r
-    → P (report_in r)
+pub record_promised_to_c : (P : Report → Type 0) (a : Result (Option Report) Refusal) {r : SearchReport} → r ≡ carried_record a
+    → IfOk a (λ o. IfSome o P) → Searched r → P (report_in r)
 record_promised_to_c P a e holds ran = rw e (of a holds (rw e at ran.0) (rw e at ran.1))
   where
-    of : (a : RecordAnswer) → archive-promises.IfRan P a → (carried_record a).refusal ≡ 0 → (carried_record a).ending < no_such_record
-        → P (report_in (carried_record a))
-    of (records.Ran r) holds z l = rw (report_back r) holds
-    of records.NoSuchRecord holds z l = absurd (omega arith)
-    of (records.Refused why) holds z l = absurd (number_not_0 why z)
+    of : (a : Result (Option Report) Refusal) → IfOk a (λ o. IfSome o P) → (carried_record a).refusal ≡ 0
+        → (carried_record a).ending < no_such_record → P (report_in (carried_record a))
+    of (Ok (Some r)) holds z l = rw (report_back r) holds
+    of (Ok None) holds z l = absurd (omega arith)
+    of (Err why) holds z l = absurd (number_not_0 why z)
 
 -- A directory, and the bounds of a record, are read back as they were.
-pub directory_back : (a : DirectoryAnswer) {r : ArchiveDirectory} → r ≡ carried_directory a → r.refusal ≡ 0 → a ≡ directories.Read (directory_in r)
+pub directory_back : (a : Result Directory Refusal) {r : ArchiveDirectory} → r ≡ carried_directory a → r.refusal ≡ 0 → a ≡ Ok (directory_in r)
 directory_back a e none = rw e (of a (rw e at none))
   where
-    of : (a : DirectoryAnswer) → (carried_directory a).refusal ≡ 0 → a ≡ directories.Read (directory_in (carried_directory a))
-    of (directories.Read d) z = refl
-    of (directories.Refused why) z = absurd (number_not_0 why z)
+    of : (a : Result Directory Refusal) → (carried_directory a).refusal ≡ 0 → a ≡ Ok (directory_in (carried_directory a))
+    of (Ok d) z = refl
+    of (Err why) z = absurd (number_not_0 why z)
 
-pub bounds_back : (a : BoundsAnswer) {r : RecordBounds} → r ≡ carried_bounds a → r.found ≡ 1 → a ≡ bounds.At (bounds_in r)
+pub bounds_back : (a : Result (Option Bounds) Refusal) {r : RecordBounds} → r ≡ carried_bounds a → r.found ≡ 1 → a ≡ Ok (Some (bounds_in r))
 bounds_back a e found = rw e (of a (rw e at found))
   where
-    of : (a : BoundsAnswer) → (carried_bounds a).found ≡ 1 → a ≡ bounds.At (bounds_in (carried_bounds a))
-    of (bounds.At b) o = refl
-    of bounds.NoSuchRecord o = absurd (omega arith)
-    of (bounds.Refused why) o = absurd (omega arith)
+    of : (a : Result (Option Bounds) Refusal) → (carried_bounds a).found ≡ 1 → a ≡ Ok (Some (bounds_in (carried_bounds a)))
+    of (Ok (Some b)) o = refl
+    of (Ok None) o = absurd (omega arith)
+    of (Err why) o = absurd (omega arith)

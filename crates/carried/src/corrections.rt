@@ -3,17 +3,18 @@ ghost use Rattle.std.specs.Prelude.{◌≡◌};
 ghost use Rattle.carried.specs.Carried.{carried_update};
 
 use super::Update;
-use correct::CorrectAnswer;
+use refusal::Refusal;
 
-// Beside a refusal the number of entries is 0.
-pub fn carry_update(answer: CorrectAnswer) -> Update
-    ensures answer { result ≡ carried_update answer }
-{
-    match answer {
-        CorrectAnswer::Updated(used) => Update { refusal: 0, used },
-        CorrectAnswer::Refused(why) => Update {
-            refusal: why.number() as u32,
-            used: 0,
-        },
+impl From<Result<usize, Refusal>> for Update {
+    ghost from_gives = { λ answer result. result ≡ carried_update answer };
+
+    fn from(answer: Result<usize, Refusal>) -> Self {
+        match answer {
+            Ok(used) => Update { refusal: 0, used },
+            Err(why) => Update {
+                refusal: u32::from(why.number()),
+                used: 0,
+            },
+        }
     }
 }

@@ -1,21 +1,15 @@
-// How answers cross to C: as structs of a fixed layout, refusals and endings by number. What is promised of an answer holds of what C receives,
-// since that is read back as it was (`Carrying`).
+// How answers cross to C: as structs of a fixed layout, refusals and endings by number; beside a refusal all else is 0. What is promised of an answer
+// holds of what C receives, since that is read back as it was (`Carrying`).
 #![tactic(auto)]
 
 mod archives;
 mod corrections;
 mod firsts;
-mod numbers;
 mod prefix_lengths;
 mod reports;
 
-pub use archives::{archive_directory, carry_bounds, carry_record};
-pub use corrections::carry_update;
-pub use firsts::carry_first;
-pub use numbers::outcome_number;
+pub use archives::archive_directory;
 use pattern::Pattern;
-pub use prefix_lengths::carry_lengths;
-pub use reports::carry;
 
 // The number of a refusal, and then all else is 0; or 0, how many pairs of the pattern's letters were compared to build hmax, and the pattern.
 #[repr(C)]

@@ -3,17 +3,18 @@ ghost use Rattle.std.specs.Prelude.{◌≡◌};
 ghost use Rattle.carried.specs.Carried.{carried_lengths};
 
 use super::Lengths;
-use lengths::LengthsAnswer;
+use refusal::Refusal;
 
-// Beside a refusal the count is 0.
-pub fn carry_lengths(answer: LengthsAnswer) -> Lengths
-    ensures answer { result ≡ carried_lengths answer }
-{
-    match answer {
-        LengthsAnswer::Counted(count) => Lengths { refusal: 0, count },
-        LengthsAnswer::Refused(why) => Lengths {
-            refusal: why.number() as u32,
-            count: 0,
-        },
+impl From<Result<u64, Refusal>> for Lengths {
+    ghost from_gives = { λ answer result. result ≡ carried_lengths answer };
+
+    fn from(answer: Result<u64, Refusal>) -> Self {
+        match answer {
+            Ok(count) => Lengths { refusal: 0, count },
+            Err(why) => Lengths {
+                refusal: u32::from(why.number()),
+                count: 0,
+            },
+        }
     }
 }

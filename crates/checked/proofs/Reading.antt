@@ -1,6 +1,6 @@
 -- What a reader of a prepared pattern finds in its fields: the promise that a search builds on. Assumes nothing.
 use Prim.Native.Nat.{ℕ, suc, ◌≤◌, ◌<◌}
-use mathlib.Core.Path.{◌≡◌, sym, ap, ◌∙◌}
+use mathlib.Core.Path.{◌≡◌, refl, sym, ap, ◌∙◌}
 use mathlib.Core.List.{List}
 use native.Mathlib.Omega.{arith}
 use lib.ListN.{length, get_or}
@@ -11,20 +11,22 @@ use Rattle.words.proofs.Ranks.{length_order}
 use Rattle.words.specs.Holds.{Lacks}
 use Rattle.intake.specs.Sizes.{longest_pattern, scratch_size}
 use Rattle.intake.specs.Outcomes.{outcome_of, Usable}
-use Rattle.intake.specs.declared.Outcome.TheVariants.{Ready}
+use Rattle.refusal.specs.Tests.{passed}
+use Rattle.std.specs.Prelude.{Result, Ok, Err}
+use Rattle.refusal.specs.declared.Refusal.{Refusal}
 use Rattle.intake.proofs.Outcomes.{ready_is}
 use Rattle.ones.specs.Marks.{marked}
 use Rattle.pattern.specs.Sizes.{ranks}
 use Rattle.pattern.specs.Lists.{padded}
-use Rattle.pattern.specs.Built.{pattern_with, pattern_of}
-use Rattle.checked.specs.Check.{prepared_again, IsPrepared}
+use Rattle.pattern.specs.Built.{pattern_with, pattern_of, built, built_with}
+use Rattle.checked.specs.Check.{prepared_again, Gives, IsPrepared}
 use Rattle.pattern.specs.Letters.{own_bytes, word_of}
 use Rattle.pattern.specs.declared.Pattern.{Pattern}
 use Rattle.pattern.proofs.Bits.{marked_nohole}
 use Rattle.pattern.proofs.Letters.{length_word}
 use Rattle.pattern.proofs.Lists.{length_padded, padded_at, padded_tabulate_at}
-use Rattle.preparation.specs.declared.Prepared.{Prepared}
-use Rattle.preparation.proofs.Answers.{outcome_is, ready_answer}
+use Rattle.pattern.specs.declared.Built.{Built}
+use Rattle.preparation.proofs.Answers.{ready, ready_answer}
 
 pub record Fields (p : Pattern) : Type 0 where
   pub some : 1 ≤ p.len
@@ -43,11 +45,18 @@ pub record Fields (p : Pattern) : Type 0 where
   pub marked_at : (q : ℕ) → q < longest_pattern → marked p.marks q ≡ nohole (word_of p) q
 
 -- A prepared pattern is the pattern of its own bytes and classes, which were not refused.
-prepared_is : (p : Pattern) → IsPrepared p → (outcome_of (own_bytes p) p.classes scratch_size ≡ Ready) × (p ≡ pattern_of (own_bytes p) p.classes)
-unfolding IsPrepared prepared_again
-prepared_is p G =
-    let ready = sym (outcome_is (own_bytes p) p.classes scratch_size) ∙ G.0 in
-    (ready, sym G.1 ∙ ap (λ (a : Prepared). a.pattern) (ready_answer (own_bytes p) p.classes scratch_size ready))
+prepared_is : (p : Pattern) → IsPrepared p → (outcome_of (own_bytes p) p.classes scratch_size ≡ passed) × (p ≡ pattern_of (own_bytes p) p.classes)
+unfolding IsPrepared prepared_again built built_with pattern_of
+prepared_is p G = go (prepared_again p) refl G
+  where
+    go : (a : Result Built Refusal) → prepared_again p ≡ a → Gives a p
+        → (outcome_of (own_bytes p) p.classes scratch_size ≡ passed) × (p ≡ pattern_of (own_bytes p) p.classes)
+    go (Ok own) e gives =
+        let tests = ready (own_bytes p) p.classes scratch_size e in
+        let same : Ok own ≡ Ok (built (own_bytes p) p.classes) = sym e ∙ ready_answer (own_bytes p) p.classes scratch_size tests in
+        let whole : own ≡ built (own_bytes p) p.classes = cc in
+        (tests, sym gives ∙ ap (λ (b : Built). b.pattern) whole)
+    go (Err why) e gives = absurd gives
 
 -- A table of m + 1 entries.
 by_rank : (w : List ℕ) (f : ℕ → ℕ) {l : List ℕ} → length w ≤ longest_pattern → l ≡ padded ranks (tabulate (suc (length w)) f)

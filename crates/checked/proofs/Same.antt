@@ -1,15 +1,13 @@
 -- same_list and same_pattern decide equality. Assumes nothing.
-use Prim.Native.Nat.{ℕ, suc, ◌+◌, ◌≤◌, ◌<◌}
-use mathlib.Core.Path.{◌≡◌, refl, sym, ap, ◌∙◌}
-use mathlib.Core.Logic.{◌↔◌, ⊎_elim}
-use mathlib.Core.Bool.{Bool, true, false, ◌&&◌, and_assoc, and-true}
+use Prim.Native.Nat.{ℕ}
+use mathlib.Core.Path.{◌≡◌, refl, ap}
+use mathlib.Core.Logic.{◌↔◌}
+use mathlib.Core.Bool.{Bool, true, false, ◌&&◌}
 use mathlib.Core.List.{List, [], ◌∷◌}
-use native.Mathlib.Numerals.{add-one}
 use lib.Dec.{eqb}
-use lib.ListN.{length, get_or, drop, drop_of_length-le}
-use lib.Seq.{drop-cons}
+use lib.Pointwise.{pointwise}
 use borrow.Author.Tests.{eq-eqb, eqb-true}
-use Rattle.words.proofs.Cases.{true_or_false, both_true, not_both}
+use Rattle.words.proofs.Cases.{both_true, not_both}
 use Rattle.checked.specs.Check.{same_list, same_tables, same_pattern}
 use Rattle.pattern.specs.declared.Pattern.{Pattern}
 
@@ -29,27 +27,13 @@ unfolding same_list
 same_self [] = refl
 same_self (x ∷ s) = rw (eq-eqb x x refl) (same_self s)
 
-pub other_lengths : (a b : List ℕ) → (length a ≡ length b → ⊥) → false ≡ same_list a b
-other_lengths a b n = ⊎_elim (λ e. absurd (n (ap length (same_is a b e)))) (λ e. sym e) (true_or_false (same_list a b))
-
--- The entries below i were compared, with the answer t; the rest decides.
-pub record Compared (a b : List ℕ) (i : ℕ) (t : Bool) : Type 0 where
-  pub rest : (t && same_list (drop i a) (drop i b)) ≡ same_list a b
-
-pub none_compared : (a b : List ℕ) → Compared a b 0 true
-none_compared a b = record { rest = refl }
-
-module _ {a b : List ℕ} {i : ℕ} {t : Bool} (C : Compared a b i t) where
-  pub one_more : i < length a → i < length b → Compared a b (i + 1) (t && eqb (get_or a i 0) (get_or b i 0))
-  unfolding same_list
-  one_more l m =
-      let rest = same_list (drop (suc i) a) (drop (suc i) b) in
-      let e = rw (drop-cons a i 0 l, drop-cons b i 0 m) at C.rest in
-      record { rest = rw (add-one i) (and_assoc t (eqb (get_or a i 0) (get_or b i 0)) rest ∙ e) }
-
-  pub all_compared : length a ≤ i → length b ≤ i → t ≡ same_list a b
-  unfolding same_list
-  all_compared l m = sym (and-true t) ∙ (rw (drop_of_length-le a l, drop_of_length-le b m) at C.rest)
+-- As the library compares them.
+pointwise_is : (a b : List ℕ) → pointwise eqb a b ≡ same_list a b
+unfolding same_list
+pointwise_is [] [] = refl
+pointwise_is [] (y ∷ t) = refl
+pointwise_is (x ∷ s) [] = refl
+pointwise_is (x ∷ s) (y ∷ t) = ap (λ r. eqb x y && r) (pointwise_is s t)
 
 -- ---- Patterns
 
@@ -78,10 +62,23 @@ pattern_is a b e =
       marks = same_is a.marks b.marks next.1 i;
     }
 
--- With the same classes, the others decide.
-pub tables_decide : (a b : Pattern) → b.classes ≡ a.classes → same_tables a b ≡ same_pattern a b
-unfolding same_pattern
-tables_decide a b e = rw (e, same_self a.classes) refl
-
 pub same_pattern_lem : (a b : Pattern) → (same_pattern a b ≡ true) ↔ (a ≡ b)
 same_pattern_lem a b = (pattern_is a b, λ e. rw e (pattern_self b))
+
+-- As the derived equality compares them, field by field as they are declared: there the classes are not the first.
+classes_first : (c l n b r : Bool) → (l && (n && (b && (c && r)))) ≡ (c && (l && (n && (b && r))))
+classes_first true l n b r = refl
+classes_first false false n b r = refl
+classes_first false true false b r = refl
+classes_first false true true false r = refl
+classes_first false true true true r = refl
+
+pub derived_is : (a b : Pattern)
+    → (eqb a.len b.len && (eqb a.noholes b.noholes && (pointwise eqb a.bytes b.bytes && (pointwise eqb a.classes b.classes
+    && (pointwise eqb a.order b.order && (pointwise eqb a.shift b.shift && (pointwise eqb a.next b.next && pointwise eqb a.marks b.marks)))))))
+    ≡ same_pattern a b
+unfolding same_pattern same_tables
+derived_is a b =
+    simp pointwise_is
+    (classes_first (same_list a.classes b.classes) (eqb a.len b.len) (eqb a.noholes b.noholes) (same_list a.bytes b.bytes)
+    (same_list a.order b.order && (same_list a.shift b.shift && (same_list a.next b.next && same_list a.marks b.marks))))

@@ -1,11 +1,11 @@
 -- When a pattern is one that preparation gives: the test behind refusal 4 of document 01.
-use Rattle.std.specs.Prelude.{ℕ, ◌≡◌, Bool, true, false, ◌&&◌, List, [], ◌∷◌, eqb}
+use Rattle.std.specs.Prelude.{ℕ, ◌≡◌, Bool, true, false, ◌&&◌, List, [], ◌∷◌, eqb, Result, Ok, Err, IsOkAnd}
 use Rattle.intake.specs.Sizes.{scratch_size}
-use Rattle.intake.specs.declared.Outcome.TheVariants.{Ready, Refused}
 use Rattle.pattern.specs.Letters.{own_bytes}
+use Rattle.pattern.specs.declared.Built.{Built}
 use Rattle.pattern.specs.declared.Pattern.{Pattern}
 use Rattle.preparation.specs.Prepared.{prepared, plain_prepared}
-use Rattle.preparation.specs.declared.Prepared.{Prepared}
+use Rattle.refusal.specs.declared.Refusal.{Refusal}
 
 unfoldable pub same_list : List ℕ → List ℕ → Bool
 same_list [] [] = true
@@ -27,18 +27,18 @@ same_pattern a b = same_list a.classes b.classes && same_tables a b
 
 -- What preparation answers to its own bytes and classes, with a scratch that is long enough. (Of a length above 256 these are 256 bytes, and
 -- their pattern differs from p in its length.) What preparation costs is no part of a pattern, and the test does not ask for it.
-unfoldable pub prepared_again : Pattern → Prepared
+unfoldable pub prepared_again : Pattern → Result Built Refusal
 unfolding prepared
 prepared_again p = prepared (own_bytes p) p.classes scratch_size
 
 -- As a test: it is not refused, and no field differs.
 unfoldable pub is_prepared : Pattern → Bool
 unfolding prepared_again same_pattern
-is_prepared p = elim (prepared_again p).outcome [ Ready ↦ same_pattern p (prepared_again p).pattern | Refused why ↦ false ]
+is_prepared p = elim (prepared_again p) [ Ok own ↦ same_pattern p own.pattern | Err why ↦ false ]
 
 -- In plain terms: an answer gives the pattern p. The pattern is prepared if that answer does.
-abbrev pub Gives : Prepared → Pattern → Type 0
-Gives a p = (a.outcome ≡ Ready) × (a.pattern ≡ p)
+abbrev pub Gives : Result Built Refusal → Pattern → Type 0
+Gives a p = IsOkAnd a (λ own. own.pattern ≡ p)
 
 unfoldable pub IsPrepared : Pattern → Type 0
 IsPrepared p = Gives (prepared_again p) p

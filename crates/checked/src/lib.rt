@@ -1,29 +1,20 @@
-// The test behind refusal 4: a pattern's own bytes are prepared again through its own classes, and all other fields are compared.
+// The test behind refusal 4: a pattern's own bytes are prepared again through its own classes, and compared with it.
 #![tactic(auto)]
 
-mod fields;
-
-ghost use Rattle.std.specs.Prelude.{◌≡◌, true, ◌↔◌, min, take};
+ghost use Rattle.std.specs.Prelude.{◌≡◌, true, ◌↔◌, take};
 ghost use Rattle.classes.specs.Classes.{identity};
 ghost use Rattle.intake.specs.Sizes.{scratch_size};
 ghost use Rattle.preparation.specs.Prepared.{prepared};
 ghost use Rattle.checked.specs.Check.{is_prepared, IsPrepared, PlainIsPrepared};
 
 use pattern::Pattern;
-use preparation::{Outcome, Prepared, prepare_alone};
-
-// The lesser of two numbers.
-fn least(a: usize, b: usize) -> usize
-    ensures { result ≡ min a b }
-{
-    if a < b { a } else { b }
-}
+use preparation::{Built, Refusal, prepare_alone};
 
 // What preparation answers to the first len bytes and the classes.
-fn prepared_again<'a>(bytes: &'a [u8], classes: &'a [u8], len: usize) -> Prepared
+fn prepared_again(bytes: &[u8], classes: &[u8], len: usize) -> Result<Built, Refusal>
     ensures { result ≡ prepared (take len bytes.now) classes.now scratch_size }
 {
-    let taken = least(len, bytes.len());
+    let taken = len.min(bytes.len());
     prepare_alone(&bytes[..taken], classes)
 }
 
@@ -33,11 +24,8 @@ pub fn is_prepared(pattern: Pattern) -> bool
     ensures meaning { (result ≡ true) ↔ IsPrepared pattern }
     ensures plain { pattern.classes ≡ identity → ((result ≡ true) ↔ PlainIsPrepared pattern) }
 {
-    let again = prepared_again(&pattern.bytes, &pattern.classes, pattern.len);
-    let outcome = again.outcome;
-    let own = again.pattern;
-    match outcome {
-        Outcome::Ready => fields::same_tables(pattern, own),
-        Outcome::Refused(_why) => false,
+    match prepared_again(&pattern.bytes, &pattern.classes, pattern.len) {
+        Ok(own) => pattern == own.pattern,
+        Err(_) => false,
     }
 }

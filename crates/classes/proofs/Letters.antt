@@ -6,7 +6,7 @@ use native.Mathlib.Nat.{zero-add}
 use native.Mathlib.Numerals.{add-one}
 use native.Mathlib.Omega.{arith}
 use lib.ListN.{length, take, drop, set, length-append, length-drop}
-use lib.Seq.{paste, paste-zero, paste-suc, length-paste, length-take-le, take_all, take_at}
+use lib.Seq.{paste, paste-suc, length-take-le, take_all, take_at}
 use borrow.Author.Tests.{eq-eqb, ne_eqb, le-leb, lt-leb}
 use Rattle.words.specs.Tables.{letter}
 use Rattle.classes.specs.Classes.{class_count, class_of, through, letters_in}
@@ -42,13 +42,7 @@ module _ (w c lent : List ℕ) where
   abbrev pub PutTo : ℕ → List ℕ → Type 0
   PutTo i l = l ≡ paste lent 0 (through c w) i
 
-  pub none_put : PutTo 0 lent
-  none_put = paste-zero lent 0 (through c w)
-
   module _ (i : ℕ) {l : List ℕ} (P : PutTo i l) (room : length w ≤ length lent) where
-    pub put_length : i ≤ length w → length l ≡ length lent
-    put_length h = ap length P ∙ length-paste lent 0 (through c w) i (omega arith) (omega (arith, length_through c w))
-
     pub one_put : {v : ℕ} → i < length w → v ≡ class_of c (letter w i) → PutTo (i + 1) (set l i v)
     one_put {v} h is =
         let put = paste lent 0 (through c w) i in

@@ -1,38 +1,16 @@
 -- The search for a distance that is not ruled out, in the terms of the code. Assumes nothing.
-use Prim.Native.Nat.{ℕ, ◌+◌, ◌-◌, ◌≤◌, ◌<◌}
-use mathlib.Core.Path.{◌≡◌, refl, sym, ◌∙◌}
-use mathlib.Core.Bool.{true, false, not}
+use Prim.Native.Nat.{ℕ, ◌+◌, ◌≤◌, ◌<◌}
+use mathlib.Core.Path.{◌≡◌}
+use mathlib.Core.Bool.{true, false}
 use mathlib.Core.List.{List}
 use native.Mathlib.Omega.{arith}
-use lib.Dec.{eqb}
 use lib.ListN.{length, get_or, set, replicate, length-set, length-replicate, get_or-replicate}
 use borrow.Author.Count.{below_more}
-use borrow.Author.Tests.{le-leb}
-use Rattle.words.specs.Tables.{letter}
 use Rattle.hmax.proofs.Stores.{after_store}
-use Rattle.custom.specs.Custom.{match_rules_out, mismatch_rules_out, present_rules_out, ruled_out, custom_shift}
+use Rattle.custom.specs.Custom.{match_rules_out, present_rules_out, ruled_out, custom_shift}
 use Rattle.custom.specs.Table.{named_places}
 use Rattle.custom.specs.Internal.{Passed}
-use Rattle.custom.proofs.Shifts.{match_allows, mismatch_allows, present_is, by_mismatch, by_match, by_nothing, shift_only}
-
--- ---- The tests
-
-module _ (w : List ℕ) (p k : ℕ) where
-  -- Moved on by more than p, the pattern does not reach the place.
-  pub match_short : p < k → false ≡ match_rules_out w p k
-  match_short l = sym (match_allows w p k (λ g. absurd (omega arith)))
-
-  pub match_tested : k ≤ p → not (eqb (letter w p) (letter w (p - k))) ≡ match_rules_out w p k
-  unfolding match_rules_out
-  match_tested l = rw (le-leb k p l) refl
-
-module _ (w order : List ℕ) (i k p : ℕ) (rank : i < length w) (read : p ≡ get_or order i 0) where
-  pub present_short : p < k → false ≡ present_rules_out w order i k
-  present_short l = sym (present_is w order i k rank ∙ mismatch_allows w (get_or order i 0) k (λ g. absurd (omega arith)))
-
-  pub present_tested : k ≤ p → eqb (letter w p) (letter w (p - k)) ≡ present_rules_out w order i k
-  unfolding mismatch_rules_out
-  present_tested l = rw read (rw (le-leb k (get_or order i 0) (rw read at l)) refl) ∙ sym (present_is w order i k rank)
+use Rattle.custom.proofs.Shifts.{by_mismatch, by_match, by_nothing, shift_only}
 
 -- ---- What is known of each distance
 
@@ -55,14 +33,13 @@ passed_more w order passed k v inside P allow = record {
 
 -- ---- The distances, one after the other
 
-module _ (w order : List ℕ) (i n : ℕ) where
-  -- Distance k is tried: those from 1 on and below it are ruled out. What is known of distances stands in a list of n entries.
+module _ (w order : List ℕ) (i : ℕ) where
+  -- Distance k is tried: those from 1 on and below it are ruled out.
   pub record Tries (passed : List ℕ) (k : ℕ) : Type 0 where
     pub on : 1 ≤ k
     pub upto : k ≤ length w
     pub rejected : (d : ℕ) → d < k → 1 ≤ d → ruled_out w order i d ≡ true
     pub known : Passed w order passed
-    pub size : length passed ≡ n
 
   -- The present mismatch does not rule it out, nor do the matches at the first j ranks.
   pub record Tests (passed : List ℕ) (k j : ℕ) : Type 0 where
@@ -70,77 +47,47 @@ module _ (w order : List ℕ) (i n : ℕ) where
     pub inside : k < length w
     pub present : present_rules_out w order i k ≡ false
     pub allow : (r : ℕ) → r < j → match_rules_out w (get_or order r 0) k ≡ false
-    pub small : j < 65536
-
-  pub tries_start : {passed : List ℕ} {k : ℕ} → k ≡ 1 → 1 ≤ length w → Passed w order passed → length passed ≡ n → Tries passed k
-  tries_start first some P size =
-      record { on = omega arith; upto = omega arith; rejected = λ d l g. absurd (omega arith); known = P; size = size }
 
   module _ {passed : List ℕ} {k : ℕ} where
     -- It is rejected, for the next one.
-    next_tried : {later : List ℕ} → Tries passed k → k < length w → ruled_out w order i k ≡ true → Passed w order later → length later ≡ n
-        → Tries later (k + 1)
-    next_tried T inside out P size = record {
-      on = omega arith;
-      upto = omega arith;
-      rejected = below_more _ k T.rejected (λ g. out);
-      known = P;
-      size = size;
-    }
+    next_tried : {later : List ℕ} → Tries passed k → k < length w → ruled_out w order i k ≡ true → Passed w order later → Tries later (k + 1)
+    next_tried T inside out P =
+        record { on = omega arith; upto = omega arith; rejected = below_more _ k T.rejected (λ g. out); known = P }
 
     pub rejected_at_once : Tries passed k → k < length w → present_rules_out w order i k ≡ true → Tries passed (k + 1)
-    rejected_at_once T inside out = next_tried T inside (by_mismatch w order i k out) T.known T.size
+    rejected_at_once T inside out = next_tried T inside (by_mismatch w order i k out) T.known
 
     -- What is known of it spares the first ranks.
-    pub tests_start : {j : ℕ} → Tries passed k → k < length w → present_rules_out w order i k ≡ false → j ≡ get_or passed k 0 → j < 65536
-        → Tests passed k j
-    tests_start T inside present read small = record {
-      tries = T;
-      inside = inside;
-      present = present;
-      allow = λ r l. T.known.allow k r inside (omega arith);
-      small = small;
-    }
+    pub tests_start : Tries passed k → k < length w → present_rules_out w order i k ≡ false → {j : ℕ} → j ≡ get_or passed k 0 → Tests passed k j
+    tests_start T inside present read =
+        record { tries = T; inside = inside; present = present; allow = λ r l. T.known.allow k r inside (omega arith) }
 
     module _ {j : ℕ} (T : Tests passed k j) where
-      pub tests_more : match_rules_out w (get_or order j 0) k ≡ false → j < i → i ≤ named_places → Tests passed k (j + 1)
-      tests_more allows l short = record {
-        tries = T.tries;
-        inside = T.inside;
-        present = T.present;
-        allow = below_more _ j T.allow allows;
-        small = omega arith;
-      }
+      pub tests_more : match_rules_out w (get_or order j 0) k ≡ false → Tests passed k (j + 1)
+      tests_more allows = record { tries = T.tries; inside = T.inside; present = T.present; allow = below_more _ j T.allow allows }
 
-      pub tests_reject : match_rules_out w (get_or order j 0) k ≡ true → j < i → {v : ℕ} → v ≡ j → Tries (set passed k v) (k + 1)
-      tests_reject out l is = rw is (next_tried T.tries T.inside (by_match w order i k j l out)
-          (passed_more w order passed k j T.inside T.tries.known T.allow)
-          (length-set passed k j ∙ T.tries.size))
+      pub tests_reject : match_rules_out w (get_or order j 0) k ≡ true → j < i → Tries (set passed k j) (k + 1)
+      tests_reject out l = next_tried T.tries T.inside (by_match w order i k j l out) (passed_more w order passed k j T.inside T.tries.known T.allow)
 
       -- No rank rules it out: it is the shift.
-      pub tests_end : 1 ≤ length w → i ≤ j → {v : ℕ} → v ≡ j → (k ≡ custom_shift w order i) × Passed w order (set passed k v)
-      tests_end some l is = (
+      pub tests_end : 1 ≤ length w → i ≤ j → (k ≡ custom_shift w order i) × Passed w order (set passed k i)
+      tests_end some l = (
         shift_only w order i some k record {
           on = T.tries.on;
           upto = T.tries.upto;
           passed = λ d a b. T.tries.rejected d b a;
           stays = λ g. by_nothing w order i k T.present (λ r h. T.allow r (omega arith));
         },
-        rw is (passed_more w order passed k j T.inside T.tries.known T.allow),
+        passed_more w order passed k i T.inside T.tries.known (λ r h. T.allow r (omega arith)),
       )
 
     -- All below m are ruled out: it is m.
-    pub tries_end : 1 ≤ length w → Tries passed k → length w ≤ k → (k ≡ custom_shift w order i) × Passed w order passed
-    tries_end some T l = (
-      shift_only w order i some k record {
-        on = T.on;
-        upto = T.upto;
-        passed = λ d a b. T.rejected d b a;
-        stays = λ g. absurd (omega arith);
-      },
-      T.known,
-    )
-
--- The list has as many entries as itself.
-pub resized : {w order : List ℕ} {i n : ℕ} {passed : List ℕ} {k : ℕ} → Tries w order i n passed k → Tries w order i (length passed) passed k
-resized T = record { on = T.on; upto = T.upto; rejected = T.rejected; known = T.known; size = refl }
+    pub tries_end : 1 ≤ length w → Tries passed k → length w ≤ k → length w ≡ custom_shift w order i
+    tries_end some T l =
+        let last : k ≡ length w = omega (arith, T.upto) in
+        rw last at (shift_only w order i some k record {
+          on = T.on;
+          upto = T.upto;
+          passed = λ d a b. T.rejected d b a;
+          stays = λ g. absurd (omega arith);
+        })

@@ -2,13 +2,12 @@
 #![tactic(auto)]
 
 mod distances;
-mod entries;
 
 ghost use Rattle.std.specs.Prelude.{◌≡◌, true, ◌↔◌};
 ghost use Rattle.custom.specs.Order.{Arrangement, arranged};
 ghost use Rattle.custom.specs.Table.{shifts_after};
 
-use entries::wide8;
+use distances::Ranks;
 
 // How many places a byte can name.
 const NAMED_PLACES: usize = 256;
@@ -21,18 +20,13 @@ pub fn is_arrangement(order: &[u8], m: usize) -> bool
     if order.len() != m {
         return false;
     }
-    let mut seen = [0u8; NAMED_PLACES];
-    let mut i: usize = 0;
-    while i < m {
-        let p = wide8(order[i]);
-        if m <= p {
+    let mut seen = [false; NAMED_PLACES];
+    for &place in order {
+        let place = usize::from(place);
+        if m <= place || seen[place] {
             return false;
         }
-        if seen[p] != 0 {
-            return false;
-        }
-        seen[p] = 1;
-        i += 1;
+        seen[place] = true;
     }
     true
 }
@@ -40,6 +34,7 @@ pub fn is_arrangement(order: &[u8], m: usize) -> bool
 // Puts the shift of each rank, from 0 to m, at the start of a table, for letters and a custom order of their places. The entries after them are
 // unchanged. Without a letter, with more letters than a byte can name places, with fewer than m + 1 entries, and beside an order that is not an
 // arrangement of the places, the table is unchanged.
+#[tactic(auto, using(crate::proofs::Filling::table_cases))]
 pub fn fill_shifts<'a>(letters: &'a [u8], order: &'a [u8], shifts: &mut [u16])
     ensures filled { shifts.new ≡ shifts_after letters.now order.now shifts.old }
 {
@@ -57,5 +52,5 @@ pub fn fill_shifts<'a>(letters: &'a [u8], order: &'a [u8], shifts: &mut [u16])
         return;
     }
     let mut passed = [0u16; NAMED_PLACES];
-    distances::fill(letters, order, &mut passed, shifts);
+    Ranks { letters, order }.fill(&mut passed, shifts);
 }

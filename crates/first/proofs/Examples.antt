@@ -6,7 +6,7 @@ use lib.ListN.{length}
 use Rattle.rules.specs.Stopped.{stopped}
 use Rattle.first.specs.Answer.{first_at}
 use Rattle.first.specs.declared.FirstAnswer.{FirstAnswer}
-use Rattle.first.specs.declared.FirstAnswer.TheVariants.{At, Absent}
+use Rattle.std.specs.Prelude.{Some, None}
 
 abbrev a : ℕ
 a = 97
@@ -23,6 +23,12 @@ aba = a ∷ b ∷ a ∷ []
 -- Of a pattern in a text, what the definition gives.
 abbrev given : List ℕ × List ℕ → FirstAnswer
 given r = first_at (stopped r.0 r.1).ending (length (stopped r.0 r.1).last.made)
+
+abbrev At : ℕ → ℕ → FirstAnswer
+At position count = record { position = Some position; count = count }
+
+abbrev Absent : ℕ → FirstAnswer
+Absent count = record { position = None; count = count }
 
 -- Those that document 01 stars, at the start of the text or absent: a in aab, ab in aaaa, aba in ababa and in ab. Then aba in cbaba, where a miss
 -- at a hole makes known what the window of the occurrence begins with; aab in aaaaab, at the end; abb in ababab, absent.

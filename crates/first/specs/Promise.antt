@@ -1,5 +1,5 @@
 -- The promises in the words of document 02, C-12.
-use Rattle.std.specs.Prelude.{ℕ, ◌<◌, ◌≡◌, List, [], ◌∷◌, ◌++◌, length}
+use Rattle.std.specs.Prelude.{ℕ, ◌<◌, ◌≡◌, List, [], ◌∷◌, ◌++◌, length, MatchOption}
 use Rattle.classes.specs.Classes.{OccursBy}
 use Rattle.rules.specs.Occurs.{CoversNo}
 use Rattle.rules.specs.Rules.{Compared, State, go, text_source, listed, turn, rest}
@@ -8,13 +8,10 @@ use Rattle.rules.specs.Stopped.{stopped}
 use Rattle.rules.specs.Promise.{Ceiling}
 use Rattle.rules.specs.declared.Ending.TheVariants.{Done, Full}
 use Rattle.first.specs.declared.FirstAnswer.{FirstAnswer}
-use Rattle.first.specs.declared.FirstAnswer.TheVariants.{At, Absent, Refused}
 
 -- What holds of a position and its count, and what of the count where the pattern is absent.
 abbrev pub AtOrAbsent : (ℕ → ℕ → Type 0) → (ℕ → Type 0) → FirstAnswer → Type 0
-AtOrAbsent P Q (At b count) = P b count
-AtOrAbsent P Q (Absent count) = Q count
-AtOrAbsent P Q (Refused why) = Unit {0}
+AtOrAbsent P Q r = MatchOption r.position (Q r.count) (λ b. P b r.count)
 
 -- A search in Colussi's order with a cap and a list of a size, beside the state s in which the search that stops has ended.
 module _ (w t : List ℕ) (cap size : ℕ) (s : State) where

@@ -29,6 +29,10 @@ module _ (w : List ℕ) (k i : ℕ) (pos : 1 ≤ k) (le : k ≤ length w) (from 
   pub ends_with_word : length w ≤ i → i ≡ hmax w k
   ends_with_word l = omega (arith, (hmax_is w k pos le).upto)
 
+-- hmax(k) is no place past the word's end.
+pub hmax_upto : (w : List ℕ) (k : ℕ) → 1 ≤ k → k ≤ length w → hmax w k ≤ length w
+hmax_upto w k pos le = (hmax_is w k pos le).upto
+
 -- hmax(q) for a q above k, told by hmax(q - k).
 module _ (w : List ℕ) (k q : ℕ) (pos : 1 ≤ k) (above : k < q) (le : q ≤ length w) where
   -- Where the prefix of q - k, shifted up by k, ends before that of k, it is that of q;

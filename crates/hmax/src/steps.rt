@@ -1,39 +1,26 @@
 // The steps of Algorithm 7. The pattern has no sentinel: its length ends the loop that would look at it.
-ghost use Rattle.std.specs.Prelude.{◌≡◌, ◌+◌, ◌≤◌, ◌<◌, eqb, length};
+ghost use Rattle.std.specs.Prelude.{◌≡◌, ◌+◌, ◌≤◌, ◌<◌, length};
 ghost use Rattle.words.specs.Tables.{hmax};
 ghost use Rattle.hmax.specs.Table.{HasHmax};
 ghost use Rattle.hmax.specs.Internal.Steps.{Room, Derives, BeginsAt, Compares, FillsRest, Fills};
 
-fn wide(x: u16) -> usize
-    ensures { (result ≡ x) × (result < 65536) }
-{
-    x as usize
-}
-
-// Whether two bytes of a pattern are the same letter. Preparation compares letters here alone.
-fn agree(x: u8, y: u8) -> bool
-    ensures { result ≡ eqb x y }
-{
-    x == y
-}
-
-// hmax(k), from a place that is not past it.
+// hmax(k), from a place that is not past it. Preparation compares letters here alone.
+#[tactic(auto, using(crate::proofs::Hmaxes::ends_where_differ, crate::proofs::Hmaxes::leads_on, crate::proofs::Hmaxes::hmax_upto))]
 fn extend(bytes: &[u8], k: usize, from: usize) -> usize
     requires { (1 ≤ k) × (k ≤ from) × (k ≤ length bytes.now) × (from ≤ hmax bytes.now k) }
     ensures { result ≡ hmax bytes.now k }
 {
-    let mut i = from;
-    while i < bytes.len() {
-        if !agree(bytes[i], bytes[i - k]) {
+    for i in from..bytes.len() {
+        if bytes[i] != bytes[i - k] {
             return i;
         }
-        i += 1;
     }
-    i
+    bytes.len()
 }
 
 // The entries after k that those before them give, where i is the entry of k; answers the first that they do not give. It is i + 1 at the
 // latest.
+#[tactic(auto, using(crate::proofs::Deriving::deriving_end))]
 fn derive(bytes: &[u8], table: &mut [u16], k: usize, i: usize) -> usize
     requires room { Room bytes.now table.old }
     requires has_hmax { HasHmax bytes.now table.old (k + 1) }
@@ -41,11 +28,11 @@ fn derive(bytes: &[u8], table: &mut [u16], k: usize, i: usize) -> usize
     ensures { Derives bytes.now table.old table.new k result }
 {
     let mut q = k + 1;
-    let mut v = wide(table[1]) + k;
+    let mut v = usize::from(table[1]) + k;
     while v < i {
         table[q] = v as u16;
         q += 1;
-        v = wide(table[q - k]) + k;
+        v = usize::from(table[q - k]) + k;
     }
     q
 }

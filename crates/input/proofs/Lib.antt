@@ -1,3 +1,2 @@
--- The laws behind the function's proof; callers cite Cut too.
+-- The laws behind the function's proof, which callers cite too.
 pub mod Cut
-pub mod Parsing

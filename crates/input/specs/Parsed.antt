@@ -1,11 +1,10 @@
 -- The program's input, as document 01 gives it ("The program"), and its tests: 1, 6 and 5 of the table "Turned away", and test 10, which document
 -- 02 (C-13) puts between 6 and 5.
-use Rattle.std.specs.Prelude.{ℕ, suc, ◌≤◌, ◌≡◌, cond, List, eqb, ltb, length, get_or, take, drop}
+use Rattle.std.specs.Prelude.{ℕ, suc, ◌≤◌, ◌≡◌, cond, List, eqb, ltb, length, get_or, take, drop, Result, Ok, Err}
 use Rattle.words.specs.Holds.{holds}
+use Rattle.refusal.specs.declared.Refusal.{Refusal}
 use Rattle.refusal.specs.declared.Refusal.TheVariants.{NoPattern, LongText, ShortInput, ZeroInPattern}
 use Rattle.intake.specs.Outcomes.{Preparable}
-use Rattle.input.specs.declared.Parsed.{Parsed}
-use Rattle.input.specs.declared.Parsed.TheVariants.{Parts, Refused}
 
 -- The longest text, in bytes.
 abbrev pub longest_text : ℕ
@@ -21,17 +20,13 @@ pattern_in input = take (length_in input) (drop 1 input)
 abbrev pub text_in : List ℕ → List ℕ
 text_in input = drop (suc (length_in input)) input
 
--- The tests in their order: the first that holds is the answer, by its number in the table (`number_of`).
-unfoldable pub parsed : List ℕ → Parsed
+-- The tests in their order: the first that holds is the answer, by its number in the table (`number_of`). Of who is not refused it is the
+-- pattern's length.
+unfoldable pub parsed : List ℕ → Result ℕ Refusal
 unfolding holds
 parsed input =
-    cond (eqb (length_in input) 0) (Refused NoPattern) (cond (ltb (length input) (suc (length_in input))) (Refused ShortInput)
-    (cond (holds 0 (pattern_in input)) (Refused ZeroInPattern) (cond (ltb longest_text (length (text_in input))) (Refused LongText) (Parts (length_in input)))))
-
--- Where an input is accepted, its pattern's length is such.
-abbrev pub IfParts : (ℕ → Type 0) → Parsed → Type 0
-IfParts P (Parts len) = P len
-IfParts P (Refused why) = Unit {0}
+    cond (eqb (length_in input) 0) (Err NoPattern) (cond (ltb (length input) (suc (length_in input))) (Err ShortInput)
+    (cond (holds 0 (pattern_in input)) (Err ZeroInPattern) (cond (ltb longest_text (length (text_in input))) (Err LongText) (Ok (length_in input)))))
 
 -- What an input that is accepted is like, in plain terms.
 pub record Accepted (input : List ℕ) (len : ℕ) : Type 0 where

@@ -1,5 +1,7 @@
 -- Which bytes preparation takes, test by test. Assumes nothing.
 use Prim.Native.Nat.{ℕ, ◌+◌, ◌-◌, ◌≤◌, ◌<◌}
+use Rattle.std.specs.Prelude.{Err, IsOk}
+use Rattle.refusal.proofs.Tests.{passed_iff}
 use mathlib.Core.Path.{◌≡◌, refl, ap, sym, ◌∙◌}
 use mathlib.Core.Logic.{◌↔◌, ⊎_elim}
 use mathlib.Core.Bool.{Bool, true, false, not, cond}
@@ -17,11 +19,10 @@ use Rattle.classes.specs.Classes.{class_count, class_of, identity}
 use Rattle.classes.proofs.Through.{class_entry}
 use Rattle.classes.proofs.Identity.{length_identity, zero_unshared}
 use Rattle.refusal.specs.declared.Refusal.{Refusal}
+use Rattle.refusal.specs.Tests.{Tested, passed}
 use Rattle.refusal.specs.declared.Refusal.TheVariants.{NoPattern, LongPattern, ShortScratch, ZeroInPattern, ClassesNot256, ZeroClassShared}
 use Rattle.intake.specs.Sizes.{longest_pattern, scratch_size}
 use Rattle.intake.specs.Outcomes.{scratch_tested, classes_tested, bytes_tested, outcome_of, Preparable, Usable}
-use Rattle.intake.specs.declared.Outcome.{Outcome}
-use Rattle.intake.specs.declared.Outcome.TheVariants.{Ready, Refused}
 
 -- The classes after the first, as code cuts them out.
 pub after_first : (c : List ℕ) {t : Bool} → t ≡ holds (letter c 0) (take (length c - 1) (drop 1 c)) → holds (letter c 0) (drop 1 c) ≡ t
@@ -30,49 +31,49 @@ after_first c e = sym (e ∙ ap (holds (letter c 0)) (take_all (length c - 1) (d
 -- ---- The tests in their order
 
 module _ (w c : List ℕ) (n : ℕ) where
-  pub no_pattern : length w ≡ 0 → outcome_of w c n ≡ Refused NoPattern
+  pub no_pattern : length w ≡ 0 → outcome_of w c n ≡ Err NoPattern
   unfolding outcome_of
   no_pattern e = rw (eq-eqb (length w) 0 e) refl
 
-  pub long_pattern : longest_pattern < length w → outcome_of w c n ≡ Refused LongPattern
+  pub long_pattern : longest_pattern < length w → outcome_of w c n ≡ Err LongPattern
   unfolding outcome_of
   long_pattern l = rw (ne_eqb (length w) 0 (λ e. omega arith), lt-ltb longest_pattern (length w) l) refl
 
   module _ (some : 1 ≤ length w) (short : length w ≤ longest_pattern) where
-    pub zero_in_pattern : holds 0 w ≡ true → outcome_of w c n ≡ Refused ZeroInPattern
+    pub zero_in_pattern : holds 0 w ≡ true → outcome_of w c n ≡ Err ZeroInPattern
     unfolding outcome_of
     zero_in_pattern e = rw (ne_eqb (length w) 0 (λ e. omega arith), le-ltb longest_pattern (length w) short, e) refl
 
     module _ (clean : holds 0 w ≡ false) where
       -- The bytes pass, and the classes are tested.
-      bytes_pass : (o : Outcome) → bytes_tested w o ≡ o
+      bytes_pass : (o : Tested) → bytes_tested w o ≡ o
       unfolding bytes_tested
       bytes_pass o = rw (ne_eqb (length w) 0 (λ e. omega arith), le-ltb longest_pattern (length w) short, clean) refl
 
-      pub classes_not_256 : (length c ≡ class_count → ⊥) → outcome_of w c n ≡ Refused ClassesNot256
+      pub classes_not_256 : (length c ≡ class_count → ⊥) → outcome_of w c n ≡ Err ClassesNot256
       unfolding outcome_of
       classes_not_256 ne = bytes_pass _ ∙ rw (ne_eqb (length c) class_count ne) refl
 
       module _ (size : length c ≡ class_count) where
-        pub zero_class_shared : holds (letter c 0) (drop 1 c) ≡ true → outcome_of w c n ≡ Refused ZeroClassShared
+        pub zero_class_shared : holds (letter c 0) (drop 1 c) ≡ true → outcome_of w c n ≡ Err ZeroClassShared
         unfolding outcome_of
         zero_class_shared e = bytes_pass _ ∙ rw (eq-eqb (length c) class_count size, e) refl
 
         module _ (alone : holds (letter c 0) (drop 1 c) ≡ false) where
-          pub short_scratch : n < scratch_size → outcome_of w c n ≡ Refused ShortScratch
+          pub short_scratch : n < scratch_size → outcome_of w c n ≡ Err ShortScratch
           unfolding outcome_of
           short_scratch l = bytes_pass _ ∙ rw (eq-eqb (length c) class_count size, alone, lt-ltb n scratch_size l) refl
 
-          pub all_pass : scratch_size ≤ n → outcome_of w c n ≡ Ready
+          pub all_pass : scratch_size ≤ n → outcome_of w c n ≡ passed
           unfolding outcome_of
           all_pass l = bytes_pass _ ∙ rw (eq-eqb (length c) class_count size, alone, le-ltb n scratch_size l) refl
 
 -- ---- In plain terms
 
--- A test that is passed on the way to Ready does not hold.
-passed : (t : Bool) (why : Refusal) (o : Outcome) → cond t (Refused why) o ≡ Ready → (t ≡ false) × (o ≡ Ready)
-passed true why o e = absurd (let z : ◌≡◌ {A = ℕ} 0 1 = cc in omega arith)
-passed false why o e = (refl, e)
+-- A test that is passed on the way to Ok does not hold.
+untold : (t : Bool) (why : Refusal) (o : Tested) → cond t (Err why) o ≡ passed → (t ≡ false) × (o ≡ passed)
+untold true why o e = absurd (let z : ◌≡◌ {A = ℕ} 0 1 = cc in omega arith)
+untold false why o e = (refl, e)
 
 -- The class of 0 is no other value's, as the test has it and in plain terms.
 module _ (c : List ℕ) (size : length c ≡ class_count) where
@@ -93,19 +94,19 @@ module _ (c : List ℕ) (size : length c ≡ class_count) where
       alone (1 + p) (omega arith) (class_entry c (1 + p) here ∙ sym (get_or-drop 1 c p 0) ∙ e ∙ sym (class_entry c 0 (omega arith))))
 
 module _ (w c : List ℕ) (n : ℕ) where
-  -- What `outcome_of` promises of Ready.
+  -- What `outcome_of` promises of who passes.
   abbrev pub Taken : Type 0
   Taken = Preparable w × Usable c × (scratch_size ≤ n)
 
-  pub ready_is : outcome_of w c n ≡ Ready → Taken
+  pub ready_is : outcome_of w c n ≡ passed → Taken
   unfolding outcome_of
   ready_is e =
-      let one = passed (eqb (length w) 0) NoPattern _ e in
-      let two = passed (ltb longest_pattern (length w)) LongPattern _ one.1 in
-      let ten = passed (holds 0 w) ZeroInPattern _ two.1 in
-      let fourteen = passed (not (eqb (length c) class_count)) ClassesNot256 _ ten.1 in
-      let fifteen = passed (holds (letter c 0) (drop 1 c)) ZeroClassShared _ fourteen.1 in
-      let three = passed (ltb n scratch_size) ShortScratch _ fifteen.1 in
+      let one = untold (eqb (length w) 0) NoPattern _ e in
+      let two = untold (ltb longest_pattern (length w)) LongPattern _ one.1 in
+      let ten = untold (holds 0 w) ZeroInPattern _ two.1 in
+      let fourteen = untold (not (eqb (length c) class_count)) ClassesNot256 _ ten.1 in
+      let fifteen = untold (holds (letter c 0) (drop 1 c)) ZeroClassShared _ fourteen.1 in
+      let three = untold (ltb n scratch_size) ShortScratch _ fifteen.1 in
       let size = eqb-true (length c) class_count (not-false _ fourteen.0) in (
         record {
           some = omega (arith, eqb-false (length w) 0 one.0);
@@ -120,26 +121,26 @@ module _ (w c : List ℕ) (n : ℕ) where
       not-false true e = refl
       not-false false e = sym e
 
-  pub ready_of : Preparable w → Usable c → scratch_size ≤ n → outcome_of w c n ≡ Ready
+  pub ready_of : Preparable w → Usable c → scratch_size ≤ n → outcome_of w c n ≡ passed
   ready_of P U l =
       all_pass w c n P.some P.short ((lacks_iff 0 w).1 P.no_zero) U.size (alone_of c U.size U.zero_alone) l
 
-  pub ready_iff : (outcome_of w c n ≡ Ready) ↔ Taken
+  pub ready_iff : (outcome_of w c n ≡ passed) ↔ Taken
   ready_iff = (ready_is, λ h. ready_of h.0 h.1 h.2)
 
   -- What `outcome_of` ensures of its answer r.
-  pub answers : {r : Outcome} → r ≡ outcome_of w c n → (r ≡ outcome_of w c n) × ((r ≡ Ready) ↔ Taken)
-  answers e = (e, rw e ready_iff)
+  pub answers : {r : Tested} → r ≡ outcome_of w c n → (r ≡ outcome_of w c n) × (IsOk r ↔ Taken)
+  answers {r} e = (e, (λ k. ready_is (sym e ∙ (passed_iff r).1 k), λ h. (passed_iff r).0 (e ∙ ready_iff.1 h)))
 
 -- ---- The classes that give each value itself are not refused.
 
-pub identity_passes : (o : Outcome) → classes_tested identity o ≡ o
+pub identity_passes : (o : Tested) → classes_tested identity o ≡ o
 unfolding classes_tested
 identity_passes o = rw (eq-eqb (length identity) class_count length_identity, zero_unshared) refl
 
 pub identity_usable : Usable identity
 identity_usable = record { size = length_identity; zero_alone = alone_is identity length_identity zero_unshared }
 
-pub plain_outcome : (w : List ℕ) (n : ℕ) → outcome_of w identity n ≡ bytes_tested w (scratch_tested n Ready)
+pub plain_outcome : (w : List ℕ) (n : ℕ) → outcome_of w identity n ≡ bytes_tested w (scratch_tested n passed)
 unfolding outcome_of
-plain_outcome w n = ap (bytes_tested w) (identity_passes (scratch_tested n Ready))
+plain_outcome w n = ap (bytes_tested w) (identity_passes (scratch_tested n passed))

@@ -10,12 +10,12 @@ use Rattle.admission.specs.Admitted.{admitted, also_judged}
 use Rattle.admission.specs.declared.Admission.{Admission}
 use Rattle.admission.specs.declared.Admission.TheVariants as door
 use Rattle.admission.proofs.Admitting.{passes_all, as_before}
-use Rattle.classes.specs.Classes.{through, identity}
+use Rattle.classes.specs.Classes.{identity}
 use Rattle.journal.specs.Journal.{written}
 use Rattle.journal.proofs.Recording.{written_begins, written_rest}
 use Rattle.pattern.specs.Letters.{own_bytes, word_of, text_of}
 use Rattle.pattern.specs.declared.Pattern.{Pattern}
-use Rattle.pattern.proofs.Letters.{text_through, word_plain, text_plain}
+use Rattle.pattern.proofs.Letters.{word_plain, text_plain}
 use Rattle.refusal.specs.declared.Refusal.{Refusal}
 use Rattle.refusal.specs.declared.Refusal.TheVariants.{ShortJournal}
 use Rattle.rules.specs.Rules.{End}
@@ -47,44 +47,40 @@ let_in_as p n cap room e = let h = passes_all (admitted p n) (leb cap room) Shor
 
 -- ---- The answers
 
-module _ (p : Pattern) (t : List ℕ) (cap : ℕ) (lent journal : List ℕ) where
+module _ (p : Pattern) (t : List ℕ) (cap : ℕ) (lent lent_journal : List ℕ) where
   -- The search that is asked for, and what the door says.
   abbrev asked : End
   asked = colussi (word_of p) (text_of p t) cap (length lent)
 
   abbrev said : Admission
-  said = admitted_with p (length t) cap (length journal)
+  said = admitted_with p (length t) cap (length lent_journal)
 
   -- The answer r, and the list and the journal afterwards.
   pub record Answers (r : SearchAnswer) (after records : List ℕ) : Type 0 where
     pub search : AnswersAt said (word_of p) asked lent r after
-    pub entries : records ≡ recorded said asked journal
+    pub entries : records ≡ recorded said asked lent_journal
 
-  pub refused : {why : Refusal} → said ≡ door.Refused why → Answers (Refused why) lent journal
+  pub refused : {why : Refusal} → said ≡ door.Refused why → Answers (Refused why) lent lent_journal
   unfolding recorded
   refused e = record { search = refused_at _ _ _ _ e; entries = rw (e, recorded) refl }
 
   -- ---- Who is let in
 
   module _ (e : said ≡ door.Admitted) where
-    recorded_written : recorded said asked journal ≡ written asked.last.made journal
+    recorded_written : recorded said asked lent_journal ≡ written asked.last.made lent_journal
     unfolding recorded
     recorded_written = rw (e, recorded) refl
 
-    -- A scan reports the search for the letters w, and writes its journal.
-    pub scanned : {w : List ℕ} → w ≡ word_of p → {r : Report} {after records : List ℕ}
-        → Reported w (colussi w (through p.classes t) cap (length lent)) lent after r
-        → records ≡ written (colussi w (through p.classes t) cap (length lent)).last.made journal → Answers (Ran r) after records
-    scanned is R J = record {
-      search = ran_at _ _ _ _ e (rw (text_through p t, ← is) R);
-      entries = (rw (is, ← text_through p t) at J) ∙ sym recorded_written;
-    }
+    -- A scan reports the search, and writes its journal.
+    pub scanned : {r : Report} {after records : List ℕ} → Reported (word_of p) asked lent after r → records ≡ written asked.last.made lent_journal
+        → Answers (Ran r) after records
+    scanned R J = record { search = ran_at _ _ _ _ e R; entries = J ∙ sym recorded_written }
 
     -- It answers as `colussi` does, and so keeps its promises.
     own : plain-search.Answers colussi p t cap lent (Ran (report_of (word_of p) asked)) (filled asked lent)
     own = record {
-      answer = sym (plain-search.ran_answer colussi p t cap lent (let_in_as p (length t) cap (length journal) e).0);
-      list = sym (plain-search.ran_list colussi p t cap lent (let_in_as p (length t) cap (length journal) e).0);
+      answer = sym (plain-search.ran_answer colussi p t cap lent (let_in_as p (length t) cap (length lent_journal) e).0);
+      list = sym (plain-search.ran_list colussi p t cap lent (let_in_as p (length t) cap (length lent_journal) e).0);
     }
 
   -- ---- The promises
@@ -94,67 +90,57 @@ module _ (p : Pattern) (t : List ℕ) (cap : ℕ) (lent journal : List ℕ) wher
     promise P holds = promised_at said (word_of p) asked lent P holds A.search
 
     -- A journal that is long enough for the cap is never a reason to refuse.
-    as_without : AsWithout p t cap (length journal) lent after r
+    as_without : AsWithout p t cap (length lent_journal) lent after r
     unfolding answer_by list_by admitted_with
     as_without l =
-        let same : said ≡ admitted p (length t) = as_before (admitted p (length t)) ShortJournal (le-leb cap (length journal) l) in
+        let same : said ≡ admitted p (length t) = as_before (admitted p (length t)) ShortJournal (le-leb cap (length lent_journal) l) in
         (A.search.answer ∙ ap (λ a. answered (word_of p) a asked) same, A.search.list ∙ ap (λ a. listed a asked lent) same)
 
-    each_entry : IfRan (Recorded asked.last.made journal records) r
+    each_entry : IfRan (Recorded asked.last.made lent_journal records) r
     unfolding report_of
-    each_entry = promise (λ _. Recorded asked.last.made journal records)
+    each_entry = promise (λ _. Recorded asked.last.made lent_journal records)
         (λ e. rw (A.entries, recorded_written e)
-        record { entries = written_begins asked.last.made journal; rest = written_rest asked.last.made journal })
+        record { entries = written_begins asked.last.made lent_journal; rest = written_rest asked.last.made lent_journal })
 
     -- Through the classes that give each value itself, it is the search for the bytes.
     plain : p.classes ≡ identity
-        → (r ≡ plain_answer_of p t cap (length lent) (length journal)) × (after ≡ plain_list_of p t cap (length journal) lent)
-        × (records ≡ plain_journal_in p t cap (length lent) journal)
+        → (r ≡ plain_answer_of p t cap (length lent) (length lent_journal)) × (after ≡ plain_list_of p t cap (length lent_journal) lent)
+        × (records ≡ plain_journal_in p t cap (length lent) lent_journal)
     unfolding plain_answer_of plain_list_of plain_journal_in
     plain e =
         let same : asked ≡ colussi (own_bytes p) t cap (length lent) = rw (word_plain p e, text_plain p e t) refl in (
           A.search.answer ∙ rw (same, word_plain p e) refl,
           A.search.list ∙ ap (λ (s : End). listed said s lent) same,
-          A.entries ∙ ap (λ (s : End). recorded said s journal) same,
+          A.entries ∙ ap (λ (s : End). recorded said s lent_journal) same,
         )
 
     -- What `journaled` ensures of its answer, its list and its journal.
-    pub promises : (r ≡ answer_of p t cap (length lent) (length journal)) × ((after ≡ list_of p t cap (length journal) lent)
-        × ((records ≡ journal_in p t cap (length lent) journal) × (AsWithout p t cap (length journal) lent after r
-        × (IfRan (Recorded asked.last.made journal records) r × (IfRan (Located colussi (word_of p) (text_of p t) cap after) r
-        × (IfRan (ListedBy p.classes (own_bytes p) t after) r × (IfRan (Columns (word_of p) asked.last.made) r
-        × (IfRan (UnderCeiling (length (word_of p)) (length t)) r × (IfRan (NoZeroCovered (length (word_of p)) t after) r
-        × (p.classes ≡ identity → (r ≡ plain_answer_of p t cap (length lent) (length journal)) × (after ≡ plain_list_of p t cap (length journal) lent)
-        × (records ≡ plain_journal_in p t cap (length lent) journal)))))))))))
+    pub promises : record {
+      answer : r ≡ answer_of p t cap (length lent) (length lent_journal);
+      list : after ≡ list_of p t cap (length lent_journal) lent;
+      journal : records ≡ journal_in p t cap (length lent) lent_journal;
+      same : AsWithout p t cap (length lent_journal) lent after r;
+      entries : IfRan (Recorded asked.last.made lent_journal records) r;
+      accurate : IfRan (Located colussi (word_of p) (text_of p t) cap after) r;
+      classed : IfRan (ListedBy p.classes (own_bytes p) t after) r;
+      columns : IfRan (Columns (word_of p) asked.last.made) r;
+      ceiling : IfRan (UnderCeiling (length (word_of p)) (length t)) r;
+      zeros : IfRan (NoZeroCovered (length (word_of p)) t after) r;
+      plain : p.classes ≡ identity
+          → (r ≡ plain_answer_of p t cap (length lent) (length lent_journal)) × (after ≡ plain_list_of p t cap (length lent_journal) lent)
+          × (records ≡ plain_journal_in p t cap (length lent) lent_journal);
+    }
     unfolding answer_of list_of journal_in
-    promises = (
-      A.search.answer,
-      (
-        A.search.list,
-        (
-          A.entries,
-          (
-            as_without,
-            (
-              each_entry,
-              (
-                promise (Located colussi (word_of p) (text_of p t) cap) (λ e. (colussi_promises p t cap lent (own e)).1.1.0),
-                (
-                  promise (ListedBy p.classes (own_bytes p) t) (λ e. (colussi_promises p t cap lent (own e)).1.1.1.0),
-                  (
-                    promise (λ _. Columns (word_of p) asked.last.made) (λ e. (colussi_promises p t cap lent (own e)).1.1.1.1.0),
-                    (
-                      promise (λ _. UnderCeiling (length (word_of p)) (length t)) (λ e. (colussi_promises p t cap lent (own e)).1.1.1.1.1.0),
-                      (
-                        promise (NoZeroCovered (length (word_of p)) t) (λ e. (colussi_promises p t cap lent (own e)).1.1.1.1.1.1.0),
-                        plain,
-                      ),
-                    ),
-                  ),
-                ),
-              ),
-            ),
-          ),
-        ),
-      ),
-    )
+    promises = record {
+      answer = A.search.answer;
+      list = A.search.list;
+      journal = A.entries;
+      same = as_without;
+      entries = each_entry;
+      accurate = promise (Located colussi (word_of p) (text_of p t) cap) (λ e. (colussi_promises p t cap lent (own e)).1.1.0);
+      classed = promise (ListedBy p.classes (own_bytes p) t) (λ e. (colussi_promises p t cap lent (own e)).1.1.1.0);
+      columns = promise (λ _. Columns (word_of p) asked.last.made) (λ e. (colussi_promises p t cap lent (own e)).1.1.1.1.0);
+      ceiling = promise (λ _. UnderCeiling (length (word_of p)) (length t)) (λ e. (colussi_promises p t cap lent (own e)).1.1.1.1.1.0);
+      zeros = promise (NoZeroCovered (length (word_of p)) t) (λ e. (colussi_promises p t cap lent (own e)).1.1.1.1.1.1.0);
+      plain = plain;
+    }

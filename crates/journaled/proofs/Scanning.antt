@@ -11,14 +11,15 @@ use Rattle.words.specs.Tables.{letter}
 use Rattle.columns.specs.Ended.{ended_with}
 use Rattle.journal.specs.Journal.{written}
 use Rattle.journal.proofs.Recording.{Records, records_start, records_more, records_all}
-use Rattle.journal.proofs.Counting.{Counts, counts_start, Ends, all_made, count_entry, count_matched, count_missed, count_listed}
+use Rattle.journal.proofs.Counting.{Counts, counts_start, Ends, all_made, count_entry, count_matched, count_missed, count_listed, counted}
 use Rattle.rules.specs.Rules.{text_source, search}
 use Rattle.rules.specs.Colussi.{colussi_plan, colussi}
 use Rattle.rules.specs.Internal.Passing.{Established}
 use Rattle.rules.specs.Report.{Reported}
 use Rattle.rules.specs.declared.Ending.{Ending}
 use Rattle.search.specs.Internal.ColussiScan.{LentOrder, LentMoves, edge_after_rank}
-use Rattle.search.proofs.LentTables.{in_window}
+use Rattle.rules.proofs.Scans.{rank_upto, column_upto}
+use Rattle.search.proofs.LentTables.{in_window, word_length, noholes_upto}
 use Rattle.search.proofs.ColussiScan.{reports_colussi}
 
 pub record Journals (letters : List ℕ) (m d : ℕ) (text : List ℕ) (cap : ℕ) (before after lent journal : List ℕ) (b i e c h k : ℕ) : Type 0 where
@@ -31,6 +32,18 @@ journals_start letters m d text cap before lent = record { counts = counts_start
 
 module _ (letters order : List ℕ) (m d : ℕ) (T : LentOrder letters order m d) {text : List ℕ} {cap : ℕ} {before after lent journal : List ℕ}
     {b i e c h k : ℕ} (F : Journals letters m d text cap before after lent journal b i e c h k) where
+  -- The rank is a rank, and comparisons at holes are not more than all comparisons.
+  pub bounds : (m ≤ 256) × (d ≤ m) × (m ≤ length letters) × (i ≤ m) × (h + (i - d) ≤ c) × (c ≤ cap) × (length journal ≡ length lent)
+  bounds = (
+    T.short,
+    noholes_upto letters order m d T,
+    T.length_letters,
+    omega (arith, rank_upto F.counts.by_rank.scans, word_length letters order m d T),
+    column_upto (counted letters order m d T F.counts),
+    F.counts.within,
+    F.records.size,
+  )
+
   -- The search ends here: its report, and its journal.
   pub journals_end : (x : Ending) → Ends letters order m d T F.counts x
       → Reported (take m letters) (colussi (take m letters) text cap (length before)) before after (ended_with x c (c - (h + (i - d))) (h + (i - d)) k)

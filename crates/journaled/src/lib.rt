@@ -4,7 +4,8 @@
 mod scan;
 
 ghost use Rattle.std.specs.Prelude.{◌≡◌, ◌≤◌, length};
-ghost use Rattle.classes.specs.Classes.{class_count, identity};
+ghost use Rattle.classes.specs.Classes.{identity};
+ghost use Rattle.intake.specs.Sizes.{longest_pattern};
 ghost use Rattle.pattern.specs.Letters.{own_bytes, word_of, text_of};
 ghost use Rattle.rules.specs.Colussi.{colussi};
 ghost use Rattle.rules.specs.Report.{Columns};
@@ -20,12 +21,12 @@ use refusal::Refusal;
 pub use rules::{Ending, Report};
 pub use search::SearchAnswer;
 
-// The letters of a pattern's first m bytes, put at the start of a list.
-fn put_first<'a>(bytes: &'a [u8], classes: &'a [u8], m: usize, letters: &mut [u8])
-    requires { (m ≤ length bytes.now) × (m ≤ length letters.old) × (length classes.now ≡ class_count) }
-    ensures { LettersOf bytes.now classes.now m (length letters.old) letters.new }
+// The letters of a pattern's bytes, put at the start of a list.
+fn put_first(pattern: &Pattern, letters: &mut [u8])
+    requires { (pattern.now.len ≤ longest_pattern) × (pattern.now.len ≤ length letters.old) }
+    ensures { LettersOf pattern.now.bytes pattern.now.classes pattern.now.len (length letters.old) letters.new }
 {
-    put_letters(&bytes[..m], classes, letters)
+    put_letters(&pattern.bytes[..pattern.len], &pattern.classes, letters)
 }
 
 // Searches a text in Colussi's order, with at most `cap` comparisons, and writes an entry of the journal for each: twice its position in the text,
@@ -59,20 +60,8 @@ pub fn journaled(
     match door {
         Admission::Admitted => {
             let mut letters = [0u8; LONGEST_PATTERN];
-            put_first(&pattern.bytes, &pattern.classes, pattern.len, &mut letters);
-            let report = scan::scan(
-                &letters,
-                &pattern.order,
-                &pattern.shift,
-                &pattern.next,
-                pattern.len,
-                pattern.noholes,
-                &pattern.classes,
-                text,
-                cap as usize,
-                positions,
-                journal,
-            );
+            put_first(&pattern, &mut letters);
+            let report = scan::scan(&pattern, &letters, text, cap as usize, positions, journal);
             SearchAnswer::Ran(report)
         }
         Admission::Refused(why) => SearchAnswer::Refused(why),

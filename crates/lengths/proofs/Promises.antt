@@ -99,12 +99,12 @@ module _ (p : Pattern) (t lent : List ℕ) where
     unfolding answer_of answered listed
     too_short l = answers (rw (e, length_text p t, lt-leb (length t) (length lent) l, answer_of) refl) refl
 
-    -- A scan of the text for the letters of the bytes.
-    pub counted : length t ≤ length lent → {count : ℕ} {after : List ℕ} → count ≡ comparisons (through p.classes (own_bytes p)) (through p.classes t)
-        → after ≡ lengths_in (through p.classes (own_bytes p)) (through p.classes t) lent → Answers (Counted count) after
-    unfolding answer_of answered listed word_of text_of
+    -- A scan of the text.
+    pub counted : length t ≤ length lent → {count : ℕ} {after : List ℕ} → count ≡ comparisons (word_of p) (text_of p t)
+        → after ≡ lengths_in (word_of p) (text_of p t) lent → Answers (Counted count) after
+    unfolding answer_of answered listed
     counted l count after =
-        rw (count, after) (answers (rw (e, length_through p.classes t, le-leb (length t) (length lent) l, answer_of) refl) refl)
+        rw (count, after) (answers (rw (e, length_text p t, le-leb (length t) (length lent) l, answer_of) refl) refl)
 
   -- ---- The promises
 
@@ -119,8 +119,7 @@ module _ (p : Pattern) (t lent : List ℕ) where
       at : (a : Admission) → admitted p (length t) ≡ a → IfCounted (P (list_of p t lent)) (answer_of p t (length lent))
       at door.Admitted e = ⊎_elim
           (λ (l : length lent < length t). from (too_short e l) tt)
-          (λ (l : length t ≤ length lent). from (counted e l refl refl)
-          (rw (word_through p, text_through p t) at (holds (admitted_is p (length t) e))))
+          (λ (l : length t ≤ length lent). from (counted e l refl refl) (holds (admitted_is p (length t) e)))
           (less_or (length lent) (length t))
       at (door.Refused why) e = from (refused e) tt
 
@@ -134,34 +133,26 @@ module _ (p : Pattern) (t lent : List ℕ) where
   some_letter I = let F = fields_of p I.prepared in omega (arith, F.some, F.word)
 
   -- What `prefix_lengths` ensures of its answer and its list.
-  pub promises : {r : LengthsAnswer} {after : List ℕ} → Answers r after
-      → (r ≡ answer_of p t (length lent)) × ((after ≡ list_of p t lent)
-      × (IfCounted (λ count. EachLongest p.classes (own_bytes p) t after) r
-      × (IfCounted (λ count. WholeWhere p.classes (own_bytes p) t (occurrences (word_of p) (text_of p t)) after) r
-      × (IfCounted (FewFor (length t)) r × (IfCounted (λ count. AsKmp (word_of p) (text_of p t)) r
-      × (p.classes ≡ identity → (r ≡ plain_answer_of p t (length lent)) × (after ≡ plain_list_of p t lent)))))))
-  promises A = (
-    A.answer,
-    (
-      A.list,
-      (
-        promised (λ after count. EachLongest p.classes (own_bytes p) t after)
-            (λ I. rw (word_through p, text_through p t) (each_longest p.classes (own_bytes p) t lent)) A,
-        (
-          promised (λ after count. WholeWhere p.classes (own_bytes p) t (occurrences (word_of p) (text_of p t)) after)
-              (λ I. rw (word_through p, text_through p t) record {
-                occurs = whole_occurs_by p.classes (own_bytes p) t lent;
-                stands = whole_listed p.classes (own_bytes p) t lent;
-              }) A,
-          (
-            promised (λ after. FewFor (length t))
-                (λ I. rw (length_text p t) at (carried_few (word_of p) (text_of p t) (some_letter I))) A,
-            (
-              promised (λ after count. AsKmp (word_of p) (text_of p t)) (λ I. as_kmp (word_of p) (text_of p t) (some_letter I)) A,
-              λ e. plain e A,
-            ),
-          ),
-        ),
-      ),
-    ),
-  )
+  pub promises : {r : LengthsAnswer} {after : List ℕ} → Answers r after → record {
+    answer : r ≡ answer_of p t (length lent);
+    list : after ≡ list_of p t lent;
+    longest : IfCounted (λ count. EachLongest p.classes (own_bytes p) t after) r;
+    whole : IfCounted (λ count. WholeWhere p.classes (own_bytes p) t (occurrences (word_of p) (text_of p t)) after) r;
+    ceiling : IfCounted (FewFor (length t)) r;
+    kmp : IfCounted (λ count. AsKmp (word_of p) (text_of p t)) r;
+    plain : p.classes ≡ identity → (r ≡ plain_answer_of p t (length lent)) × (after ≡ plain_list_of p t lent);
+  }
+  promises A = record {
+    answer = A.answer;
+    list = A.list;
+    longest = promised (λ after count. EachLongest p.classes (own_bytes p) t after)
+        (λ I. rw (word_through p, text_through p t) (each_longest p.classes (own_bytes p) t lent)) A;
+    whole = promised (λ after count. WholeWhere p.classes (own_bytes p) t (occurrences (word_of p) (text_of p t)) after)
+        (λ I. rw (word_through p, text_through p t) record {
+          occurs = whole_occurs_by p.classes (own_bytes p) t lent;
+          stands = whole_listed p.classes (own_bytes p) t lent;
+        }) A;
+    ceiling = promised (λ after. FewFor (length t)) (λ I. rw (length_text p t) at (carried_few (word_of p) (text_of p t) (some_letter I))) A;
+    kmp = promised (λ after count. AsKmp (word_of p) (text_of p t)) (λ I. as_kmp (word_of p) (text_of p t) (some_letter I)) A;
+    plain = λ e. plain e A;
+  }

@@ -2,14 +2,15 @@
 use Prim.Native.Nat.{ℕ, zero, suc, ◌+◌, ◌-◌, ◌≤◌, ◌<◌}
 use mathlib.Core.Path.{◌≡◌, refl, sym, ◌∙◌}
 use mathlib.Core.Logic.{⊎_elim, ◌↔◌}
-use mathlib.Core.Bool.{Bool, true, false, ◌&&◌, true≢false}
+use mathlib.Core.Bool.{Bool, true, false, ◌&&◌, and_assoc, and-true}
 use mathlib.Core.List.{List, [], ◌∷◌, ◌++◌}
 use native.Mathlib.Omega.{arith}
 use lib.Dec.{ltb, leb}
 use lib.ListN.{length, get_or, take, drop, length-drop, length-map}
 use lib.Seq.{get_or-take, get_or-drop, length-take-le}
-use borrow.Author.Tests.{ltb-true, ltb-false, lt-ltb, le-leb, lt-leb, leb-true}
-use Rattle.words.proofs.Cases.{less_or, true_or_false, both_true}
+use borrow.Author.Tests.{ltb-true, lt-ltb, le-leb, leb-true}
+use Rattle.words.specs.Numbers.{every}
+use Rattle.words.proofs.Cases.{less_or, both_true}
 use Rattle.words.proofs.Numbers.{every_of, every_is}
 use Rattle.lists.specs.Lists.{Listed, Ascending, ascends, in_order, moved}
 use Rattle.lists.proofs.Entries.{listed_first, listed_later, first_or_later, listed_cases, moved_at}
@@ -100,13 +101,6 @@ module _ (l : List ℕ) where
   unfolding ascends
   ascends_of h = every_of (length l - 1) rises (λ i g. lt-ltb _ _ (h i (omega arith)))
 
-  pub not_ascends : (i : ℕ) → suc i < length l → get_or l (suc i) 0 ≤ get_or l i 0 → ascends l ≡ false
-  unfolding ascends
-  not_ascends i h g = ⊎_elim
-      (λ e. absurd (omega (arith, ltb-true (get_or l i 0) (get_or l (suc i) 0) (every_is (length l - 1) rises e i (omega arith)))))
-      (λ e. e)
-      (true_or_false (ascends l))
-
   ascends_is : ascends l ≡ true → Ascending l
   unfolding ascends
   ascends_is e i j h g = let z : i + suc (j - suc i) ≡ j = omega arith in rw z at (far (j - suc i) (omega arith))
@@ -124,9 +118,6 @@ module _ (list : List ℕ) (used : ℕ) where
   pub in_order_is : in_order list used ≡ true → (used ≤ length list) × Ascending (take used list)
   in_order_is e = let h = both_true (leb used (length list)) (ascends (take used list)) e in (leb-true used (length list) h.0, ascends_is (take used list) h.1)
 
-  pub too_many : length list < used → in_order list used ≡ false
-  too_many l = rw (lt-leb used (length list) l) refl
-
   module _ (fits : used ≤ length list) where
     used_length : length (take used list) ≡ used
     used_length = length-take-le used list fits
@@ -135,10 +126,6 @@ module _ (list : List ℕ) (used : ℕ) where
     in_order_of rises = rw (le-leb used (length list) fits) (ascends_of (take used list) (λ i h.
         let g : suc i < used = omega (arith, used_length) in
         rw (get_or-take used list i 0 (omega arith), get_or-take used list (suc i) 0 g) (rises i g)))
-
-    pub not_in_order : (i : ℕ) → suc i < used → get_or list (suc i) 0 ≤ get_or list i 0 → in_order list used ≡ false
-    not_in_order i h g = rw (le-leb used (length list) fits) (not_ascends (take used list) i (omega (arith, used_length))
-        (rw (get_or-take used list i 0 (omega arith), get_or-take used list (suc i) 0 h) g))
 
   -- What `in_order` ensures of its answer r.
   pub answers : {r : Bool} → r ≡ in_order list used → (r ≡ in_order list used) × ((r ≡ true) ↔ ((used ≤ length list) × Ascending (take used list)))
@@ -152,42 +139,37 @@ module _ (list : List ℕ) (used : ℕ) where
     ),
   )
 
--- ---- The test by code, entry by entry
+-- ---- The test by code, pair by pair
 
--- The test so far: each of the first i entries is below the next of them; or some entry in use is not below the next.
-pub record Tested (list : List ℕ) (used i : ℕ) (rises : Bool) : Type 0 where
-  pub some : 1 ≤ i
-  pub all : rises ≡ true → (k : ℕ) → suc k < i → get_or list k 0 < get_or list (suc k) 0
-  pub not_all : rises ≡ false → (k : ℕ) × (suc k < used) × (get_or list (suc k) 0 ≤ get_or list k 0)
+and_swap : (a b c : Bool) → (a && (b && c)) ≡ (b && (a && c))
+and_swap true b c = refl
+and_swap false true c = refl
+and_swap false false c = refl
 
-pub test_start : (list : List ℕ) (used : ℕ) → Tested list used 1 true
-test_start list used = record { some = omega arith; all = λ e k l. absurd (omega arith); not_all = λ e. absurd (true≢false e) }
+every_first : (n : ℕ) (q : ℕ → Bool) → every (suc n) q ≡ (q 0 && every n (λ i. q (suc i)))
+unfolding every
+every_first zero q = refl
+every_first (suc n) q = rw (every_first n q) (and_swap (q (suc n)) (q 0) (every n (λ i. q (suc i))))
 
-module _ (list : List ℕ) (used i : ℕ) (rises : Bool) (T : Tested list used i rises) where
-  before : suc (i - 1) ≡ i
-  before = omega (arith, T.some)
+-- The first pair, and those after it.
+ascends_first : (x y : ℕ) (l : List ℕ) → ascends (x ∷ y ∷ l) ≡ (ltb x y && ascends (y ∷ l))
+unfolding ascends
+ascends_first x y l =
+    let long : suc (suc (length l)) - 1 ≡ suc (length l) = omega arith in
+    let short : suc (length l) - 1 ≡ length l = omega arith in
+    rw (long, short) (every_first (length l) (rises (x ∷ y ∷ l)))
 
-  pub test_on : i < used → Tested list used (i + 1) (rises && ltb (get_or list (i - 1) 0) (get_or list i 0))
-  test_on l = record {
-    some = omega arith;
-    all = λ e k h.
-        let both = both_true rises (ltb (get_or list (i - 1) 0) (get_or list i 0)) e in
-        ⊎_elim
-        (λ (g : suc k < i). T.all both.0 k g)
-        (λ (g : i ≤ suc k).
-        let z : i - 1 ≡ k = omega (arith, T.some) in
-        let y : i ≡ suc k = omega arith in
-        rw (z, y) at (ltb-true (get_or list (i - 1) 0) (get_or list i 0) both.1))
-        (less_or (suc k) i);
-    not_all = λ e. ⊎_elim
-        (λ (f : rises ≡ true). (i - 1, omega (arith, T.some), rw before (ltb-false (get_or list (i - 1) 0) (get_or list i 0) (rw f at e))))
-        (λ (f : rises ≡ false). T.not_all f)
-        (true_or_false rises);
-  }
+-- Where a pair has been tested, with all before it, the test goes on with those after it.
+pub pair_tested : (rest pair later : List ℕ) (rising : Bool) → 2 ≤ length rest → pair ≡ take 2 rest → later ≡ drop 1 rest
+    → ((rising && ltb (get_or pair 0 0) (get_or pair 1 0)) && ascends later) ≡ (rising && ascends rest)
+pair_tested [] pair later rising l e f = absurd (omega arith)
+pair_tested (x ∷ []) pair later rising l e f = absurd (omega arith)
+pair_tested (x ∷ y ∷ rest) pair later rising l e f = rw (e, f, ascends_first x y rest) (and_assoc rising (ltb x y) (ascends (y ∷ rest)))
 
-  -- Past the entries in use it is the answer.
-  pub test_end : used ≤ length list → used ≤ i → rises ≡ in_order list used
-  test_end fits past = ⊎_elim
-      (λ (e : rises ≡ true). e ∙ sym (in_order_of list used fits (λ k l. T.all e k (omega arith))))
-      (λ (e : rises ≡ false). let N = T.not_all e in e ∙ sym (not_in_order list used fits N.0 N.1 N.2))
-      (true_or_false rises)
+-- Where no pair is left, the answer is what was tested.
+pub all_tested : (list : List ℕ) (used : ℕ) (rest : List ℕ) (rising : Bool) → used ≤ length list → length rest < 2
+    → (rising && ascends rest) ≡ ascends (take used list) → rising ≡ in_order list used
+unfolding ascends
+all_tested list used rest rising fits short e =
+    let none : ascends rest ≡ true = every_of (length rest - 1) (rises rest) (λ i g. absurd (omega arith)) in
+    rw (le-leb used (length list) fits) (sym (and-true rising) ∙ rw none at e)

@@ -14,10 +14,8 @@ pub fn in_order(list: &[u32], used: usize) -> bool
     }
     // No way out before the end: so a compiler takes several entries at a time.
     let mut rises = true;
-    let mut i: usize = 1;
-    while i < used {
-        rises = rises & (list[i - 1] < list[i]);
-        i += 1;
+    for pair in list[..used].windows(2) {
+        rises &= pair[0] < pair[1];
     }
     rises
 }

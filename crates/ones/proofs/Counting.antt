@@ -2,14 +2,17 @@
 use Prim.Native.Nat.{ℕ, zero, suc, ◌+◌, ◌-◌, ◌*◌, ◌/◌, ◌%◌, ◌^◌, ◌≤◌, ◌<◌}
 use mathlib.Core.Path.{◌≡◌, refl, sym, ap, ◌∙◌}
 use mathlib.Core.Logic.{⊎_elim}
-use mathlib.Core.Bool.{Bool, cond}
+use mathlib.Core.Bool.{Bool, false, cond}
 use mathlib.Core.List.{List, [], ◌∷◌}
 use native.Mathlib.Omega.{arith}
-use native.Mathlib.Nat.{zero-add, mod-one, mod-lt}
-use lib.Pow.{pow_pos, mod-pow-add}
-use lib.Count.{ones, ones_cat}
+use native.Mathlib.Numerals.{add-one}
+use native.Mathlib.Nat.{mod-one, mod-lt, mod-eq_of_lt}
+use lib.Bits.{bit_and, and_mask}
+use lib.Pow.{pow_pos, pow-lt, mod-pow-add, shl_exact}
+use lib.Count.{ones, ones_cat, ones-le}
 use lib.Dec.{eqb}
-use lib.ListN.{get_or}
+use lib.ListN.{length, get_or, set, length-set}
+use lib.Seq.{get_or-set_same, get_or-set_other, ext_get_or}
 use borrow.Author.Tests.{lt-ltb, le-ltb}
 use Rattle.words.specs.Numbers.{count}
 use Rattle.words.proofs.Cases.{less_or}
@@ -37,6 +40,28 @@ low_ones_lem word (suc n) =
     let e : 1 + n ≡ suc n = omega arith in
     ap ones (rw e at (mod-pow-add word 1 n)) ∙ ones_cat n bit (word % 2 ^ n) (mod-lt word (pow_pos n))
     ∙ omega (arith, bit_ones bit (mod-lt (word / 2 ^ n) (omega arith)), low_ones_lem word n)
+
+-- There are n of them at most.
+pub low_ones_le : (word n : ℕ) → low_ones word n ≤ n
+unfolding low_ones
+low_ones_le word n = ones-le n (word % 2 ^ n) (mod-lt word (pow_pos n))
+
+-- A word is its 64 bits.
+pub all_bits : (word : ℕ) → word < 2 ^ 64 → ones word ≡ low_ones word 64
+unfolding low_ones
+all_bits word l = ap ones (sym (mod-eq_of_lt l))
+
+-- No bit is lost where a one is shifted to a place.
+pub mask_is : (place : ℕ) → place < 64 → (1 * 2 ^ place) % 2 ^ 64 ≡ 2 ^ place
+mask_is place l = shl_exact {a = 1} 1 place 64 (omega arith) (omega arith) ∙ omega arith
+
+-- The mask has the bits below a place, so what it leaves of a word is the word's remainder by 2 ^ place.
+pub below_place : (word place mask : ℕ) → place < 64 → mask ≡ (1 * 2 ^ place) % 2 ^ 64 → low_ones (bit_and word (mask - 1)) 64 ≡ low_ones word place
+unfolding low_ones
+below_place word place mask l e =
+    let shifted : mask ≡ 2 ^ place = e ∙ mask_is place l in
+    let below : word % 2 ^ place < 2 ^ 64 = omega (arith, mod-lt word (pow_pos place), pow-lt {i = place} {j = 64} l) in
+    rw (shifted, and_mask word place) (ap ones (mod-eq_of_lt below))
 
 -- ---- All words
 
@@ -93,24 +118,66 @@ module _ (marks : List ℕ) where
 
   -- ---- What the functions answer
 
-  -- The sums of four counts.
-  pub summed : {a b c d : ℕ}
-      → a ≡ low_ones (get_or marks 0 0) 64 → b ≡ low_ones (get_or marks 1 0) 64 → c ≡ low_ones (get_or marks 2 0) 64 → d ≡ low_ones (get_or marks 3 0) 64
-      → (0 ∷ a ∷ (a + b) ∷ (a + b + c) ∷ (a + b + c + d) ∷ []) ≡ whole_words marks
+  -- As many ones as the words have bits, at most.
+  pub ones_of_le : (i : ℕ) → ones_of marks i ≤ 64 * i
+  unfolding ones_of low_ones
+  ones_of_le zero = omega arith
+  ones_of_le (suc i) = omega (arith, ones_of_le i, low_ones_le (get_or marks i 0) 64)
+
+  -- The counts of up to i words are stored in a list of five, of which none is stored yet,
+  pub record Stored (whole : List ℕ) (i : ℕ) : Type 0 where
+    size : length whole ≡ 5
+    each : (k : ℕ) → k ≤ i → get_or whole k 0 ≡ ones_of marks k
+
+  pub none_stored : Stored (0 ∷ 0 ∷ 0 ∷ 0 ∷ 0 ∷ []) 0
+  unfolding ones_of
+  none_stored = record { size = refl; each = λ k l. let e : k ≡ 0 = omega arith in rw e refl }
+
+  -- and one more,
+  pub next_stored : (whole : List ℕ) (i n : ℕ) → i < 4 → n ≡ low_ones (get_or marks i 0) 64 → Stored whole i
+      → Stored (set whole (i + 1) (get_or whole i 0 + n)) (i + 1)
+  unfolding ones_of
+  next_stored whole i n l e S = record {
+    size = length-set whole (i + 1) (get_or whole i 0 + n) ∙ S.size;
+    each = λ k h. ⊎_elim
+        (λ (a : k < i + 1). get_or-set_other whole (i + 1) k (get_or whole i 0 + n) 0 (λ q. omega arith) ∙ S.each k (omega arith))
+        (λ (a : i + 1 ≤ k).
+        let here : k ≡ i + 1 = omega arith in
+        rw here (get_or-set_same whole (i + 1) (get_or whole i 0 + n) 0 (omega (arith, S.size))
+        ∙ rw (S.each i (omega arith), e, add-one i, ones_of) refl))
+        (less_or k (i + 1));
+  }
+
+  -- which is at most as many ones as the words have bits.
+  pub stored_le : (whole : List ℕ) (i : ℕ) → Stored whole i → get_or whole i 0 ≤ 64 * i
+  stored_le whole i S = rw (S.each i (omega arith)) (ones_of_le i)
+
+  -- All are the list.
+  pub all_stored : (whole : List ℕ) → Stored whole 4 → whole ≡ whole_words marks
   unfolding whole_words
-  summed ea eb ec ed = rw (ea, eb, ec, ed, zero-add (low_ones (get_or marks 0 0) 64), whole_words, ones_of) refl
+  all_stored whole S = ext_get_or 0 whole (whole_words marks) S.size (λ i l.
+      let upto : i ≤ 4 = omega (arith, S.size) in
+      S.each i upto ∙ sym (whole_at i upto))
 
-  -- A count below a place is that of the marks.
-  pub answered : (whole : List ℕ) (p r : ℕ) → r ≡ ones_below marks whole p
-      → (r ≡ ones_below marks whole p) × (whole ≡ whole_words marks → r ≡ count p (marked marks))
-  answered whole p r e = (e, λ s. e ∙ ap (λ x. ones_below marks x p) s ∙ marks_below p)
+  -- A bit is read as the lowest one of what is left of its word,
+  pub bit_read : (p : ℕ) → p < 256 → marked marks p ≡ eqb (bit_and (get_or marks (p / 64) 0 / 2 ^ (p % 64)) 1) 1
+  unfolding marked
+  bit_read p l = rw (and_mask (get_or marks (p / 64) 0 / 2 ^ (p % 64)) 1, lt-ltb p 256 l) refl
 
-  -- By the two cases of a place.
-  pub inside : (whole : List ℕ) (p a b : ℕ) → p < 256 → a ≡ get_or whole (p / 64) 0 → b ≡ low_ones (get_or marks (p / 64) 0) (p % 64)
-      → a + b ≡ ones_below marks whole p
+  -- and past the last place there is none.
+  pub none_past : (p : ℕ) → 256 ≤ p → marked marks p ≡ false
+  unfolding marked
+  none_past p l = rw (le-ltb p 256 l) refl
+
+  -- A count below a place is that of the marks,
+  pub counted : (p : ℕ) → count p (marked marks) ≡ ones_below marks (whole_words marks) p
+  counted p = sym (marks_below p)
+
+  -- by the two cases of a place.
+  pub inside : (whole : List ℕ) (p : ℕ) → p < 256 → ones_below marks whole p ≡ get_or whole (p / 64) 0 + low_ones (get_or marks (p / 64) 0) (p % 64)
   unfolding ones_below
-  inside whole p a b l ea eb = rw (lt-ltb p 256 l, ea, eb, ones_below) refl
+  inside whole p l = rw (lt-ltb p 256 l, ones_below) refl
 
-  pub past : (whole : List ℕ) (p r : ℕ) → 256 ≤ p → r ≡ get_or whole 4 0 → r ≡ ones_below marks whole p
+  pub past : (whole : List ℕ) (p : ℕ) → 256 ≤ p → ones_below marks whole p ≡ get_or whole 4 0
   unfolding ones_below
-  past whole p r l e = rw (le-ltb p 256 l, ones_below) e
+  past whole p l = rw (le-ltb p 256 l, ones_below) refl

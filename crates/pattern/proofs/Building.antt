@@ -1,6 +1,6 @@
 -- What building answers in each case, and what it leaves in the scratch. Assumes nothing.
 use Prim.Native.Nat.{ℕ, suc, ◌+◌, ◌≤◌, ◌<◌}
-use mathlib.Core.Path.{◌≡◌, refl, sym, ◌∙◌}
+use mathlib.Core.Path.{◌≡◌, refl, ◌∙◌}
 use mathlib.Core.Logic.{⊎_elim}
 use mathlib.Core.Bool.{true, false}
 use mathlib.Core.List.{List, ◌++◌}
@@ -8,7 +8,7 @@ use native.Mathlib.Omega.{arith}
 use lib.Dec.{leb, eqb}
 use lib.ListN.{length, get_or, take, drop, length-append, length-drop, get_or-append}
 use lib.Seq.{length-take-le, get_or-take, get_or-append-add, drop-append-add, drop_at}
-use borrow.Author.Tests.{leb-true, le-leb, lt-leb, eqb-true, eq-eqb, ne_eqb}
+use borrow.Author.Tests.{leb-true, le-leb, eqb-true, eq-eqb}
 use Rattle.words.specs.Numbers.{tabulate}
 use Rattle.words.specs.Tables.{noholes, kmin}
 use Rattle.words.proofs.Cases.{true_or_false, both_true}
@@ -118,49 +118,34 @@ module _ (w c : List ℕ) (n : ℕ) (some : 1 ≤ length w) (short : length w �
   build_answer = rw (buildable_is, built_from) refl
 
 module _ (w c s : List ℕ) where
-  -- What `build` ensures.
-  abbrev pub Ensured : List ℕ → Built → Type 0
-  Ensured t r = (r ≡ built_from w c (length s)) × (t ≡ scratch_with w c s)
-
-  after_build : Sizes w s → length c ≡ class_count → scratch_with w c s ≡ tables_after (through c w) s
+  pub after_build : Sizes w s → length c ≡ class_count → scratch_with w c s ≡ tables_after (through c w) s
   unfolding scratch_with
   after_build S size = rw (buildable_is w c (length s) S.some S.short size S.room, scratch_with) refl
 
-  pub built_from_lem : {t : List ℕ} {r : Built} → Sizes w s → length c ≡ class_count → r ≡ built w c → t ≡ tables_after (through c w) s → Ensured t r
-  built_from_lem S size answer after = (
-    answer ∙ sym (build_answer w c (length s) S.some S.short size S.room),
-    after ∙ sym (after_build S size),
-  )
-
   -- and not where one of them does not.
+  not_buildable : ((1 ≤ length w) → (length w ≤ longest_pattern) → (length c ≡ class_count) → (scratch_size ≤ length s) → ⊥)
+      → buildable (length w) (length c) (length s) ≡ false
+  unfolding buildable
+  not_buildable fails = ⊎_elim
+      (λ (yes : buildable (length w) (length c) (length s) ≡ true).
+      let tests = both_true (leb 1 (length w)) _ yes in
+      let more = both_true (leb (length w) longest_pattern) _ tests.1 in
+      let last = both_true (eqb (length c) class_count) _ more.1 in
+      absurd (fails (leb-true _ _ tests.0) (leb-true _ _ more.0) (eqb-true _ _ last.0) (leb-true _ _ last.1)))
+      (λ no. no)
+      (true_or_false (buildable (length w) (length c) (length s)))
+
+  pub no_answer : ((1 ≤ length w) → (length w ≤ longest_pattern) → (length c ≡ class_count) → (scratch_size ≤ length s) → ⊥)
+      → built_from w c (length s) ≡ unbuilt
+  unfolding built_from
+  no_answer fails = rw (not_buildable fails, built_from) refl
+
   after_none : buildable (length w) (length c) (length s) ≡ false → scratch_with w c s ≡ s
   unfolding scratch_with
   after_none fails = rw (fails, scratch_with) refl
 
-  unbuilt_from : {r : Built} → buildable (length w) (length c) (length s) ≡ false → r ≡ unbuilt → Ensured s r
-  unfolding built_from
-  unbuilt_from fails answer = (answer ∙ rw (fails, built_from) refl, sym (after_none fails))
-
-  module _ {r : Built} (answer : r ≡ unbuilt) where
-    pub none : length w < 1 → Ensured s r
-    unfolding buildable
-    none l = unbuilt_from (rw (lt-leb 1 (length w) l) refl) answer
-
-    pub too_many : 1 ≤ length w → longest_pattern < length w → Ensured s r
-    unfolding buildable
-    too_many some l = unbuilt_from (rw (le-leb 1 (length w) some, lt-leb (length w) longest_pattern l) refl) answer
-
-    pub not_256 : 1 ≤ length w → length w ≤ longest_pattern → (length c ≡ class_count → ⊥) → Ensured s r
-    unfolding buildable
-    not_256 some short ne =
-        unbuilt_from (rw (le-leb 1 (length w) some, le-leb (length w) longest_pattern short, ne_eqb (length c) class_count ne) refl) answer
-
-    pub too_small : 1 ≤ length w → length w ≤ longest_pattern → length c ≡ class_count → length s < scratch_size → Ensured s r
-    unfolding buildable
-    too_small some short size l =
-        unbuilt_from
-        (rw (le-leb 1 (length w) some, le-leb (length w) longest_pattern short, eq-eqb (length c) class_count size, lt-leb scratch_size (length s) l) refl)
-        answer
+  pub no_change : ((1 ≤ length w) → (length w ≤ longest_pattern) → (length c ≡ class_count) → (scratch_size ≤ length s) → ⊥) → scratch_with w c s ≡ s
+  no_change fails = after_none (not_buildable fails)
 
   -- Past its first scratch_size numbers, a scratch is always kept.
   pub build_kept : {t : List ℕ} → t ≡ scratch_with w c s → KeptFrom scratch_size s t

@@ -21,11 +21,6 @@ take_least n l = ⊎_elim
 
 -- ---- Filled from the front
 
--- Zeros alone.
-pub none_stored : (n : ℕ) (f : ℕ → ℕ) → replicate n 0 ≡ padded n (tabulate 0 f)
-unfolding tabulate padded
-none_stored n f = let e : n - 0 ≡ n = omega arith in rw e refl
-
 -- A store in place of the first zero after a list.
 store_padded : (n : ℕ) (l : List ℕ) (v : ℕ) → length l < n → set (padded n l) (length l) v ≡ padded n (l ++ (v ∷ []))
 unfolding padded

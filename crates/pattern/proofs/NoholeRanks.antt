@@ -1,5 +1,5 @@
 -- The noholes, written in the order of the places; and their next ranks, of which those that are not 0 are asked for. Assumes nothing.
-use Prim.Native.Nat.{ℕ, suc, ◌+◌, ◌-◌, ◌*◌, ◌^◌, ◌%◌, ◌≤◌, ◌<◌}
+use Prim.Native.Nat.{ℕ, min, max, suc, ◌+◌, ◌-◌, ◌*◌, ◌^◌, ◌%◌, ◌≤◌, ◌<◌}
 use mathlib.Core.Path.{◌≡◌, refl, sym, ap, ◌∙◌}
 use mathlib.Core.Logic.{◌⊎◌, inl, inr, ⊎_elim}
 use mathlib.Core.Bool.{true, false, cond}
@@ -7,30 +7,29 @@ use mathlib.Core.List.{List}
 use native.Mathlib.Omega.{arith}
 use native.Mathlib.Numerals.{add-one}
 use lib.Dec.{leb, ltb}
-use lib.ListN.{length, get_or, set, replicate, length-set, length-replicate, get_or-replicate}
-use lib.Seq.{get_or-set_same, get_or-set_other}
+use lib.ListN.{length, get_or, set, take, replicate, length-set, length-replicate, get_or-replicate}
+use lib.Seq.{get_or-set_same, get_or-set_other, get_or-take, length-take-le}
 use borrow.Author.Tests.{le-leb, lt-leb, lt-ltb, le-ltb}
+use Rattle.std.specs.Int.{from_bool}
 use Rattle.words.specs.Numbers.{tabulate}
 use Rattle.words.specs.Tables.{hmax, nohole, kmin, below, noholes, place, rank, shift, next}
 use Rattle.words.proofs.Cases.{less_or}
+use Rattle.words.proofs.Tabulate.{by_entries}
 use Rattle.words.proofs.Noholes.{nohole_inside, kmin_nohole, kmin_hole, past_hole, nohole_is}
 use Rattle.words.proofs.Ranks.{below_le, below_nohole, below_hole, below_same, rank_nohole, nohole_early, place_rank, nohole_rank}
-use Rattle.words.proofs.Shifts.{shift_nohole, next_nohole, noholes_le, none_below_first}
+use Rattle.words.proofs.Shifts.{shift_nohole, next_nohole, noholes_le, none_below_first, hole_before_first}
 use Rattle.intake.specs.Sizes.{longest_pattern}
 use Rattle.hmax.proofs.Stores.{after_store}
 use Rattle.pattern.specs.Sizes.{ranks}
 use Rattle.pattern.specs.Marks.{bits, mark_word}
 use Rattle.pattern.specs.Internal.Ranked.{OrderTo, ShiftTo, NextTo, Among, ListsNoholes, ListsWord, Askable, asked, Asks}
 use Rattle.pattern.proofs.Kmins.{nohole_test}
-use Rattle.pattern.proofs.Bits.{bits_same, bit_more, bit_room, marked_below}
+use Rattle.pattern.proofs.Bits.{one_if, bits_same, bit_more, bit_room, marked_below}
 use Rattle.pattern.proofs.Ranked.{kept_in, more_in}
 
 -- ---- Numbers that are asked for, rank by rank
 
 module _ (marks orders shifts later : List ℕ) where
-  pub asks_none : (before : List ℕ) → Asks marks orders shifts later 0 before before
-  asks_none before = record { size = refl; done = λ u l. absurd (omega arith); others = λ j. inr refl }
-
   -- One more is stored, at the rank i that is listed next.
   pub asks_more : {before after : List ℕ} (t i v : ℕ) → i < length before → i ≡ get_or later t 0 → v ≡ asked marks orders shifts i
       → Asks marks orders shifts later t before after → Asks marks orders shifts later (t + 1) before (set after i v)
@@ -49,6 +48,39 @@ module _ (marks orders shifts later : List ℕ) where
         (λ kept. inr kept)
         (A.others j));
   }
+
+-- Of those that are listed, a slice of the first t is passed on.
+module _ (later : List ℕ) (t : ℕ) (l : t ≤ length later) where
+  pub taken : t ≡ length (take t later)
+  taken = sym (length-take-le t later l)
+
+  pub askable_taken : {orders shifts : List ℕ} → Askable orders shifts later t → Askable orders shifts (take t later) (length (take t later))
+  askable_taken A = record {
+    room = omega (arith, A.room, taken);
+    back = λ u h. let g : u < t = omega (arith, taken) in rw (get_or-take t later u 0 g) (A.back u g);
+  }
+
+  among_taken : (j : ℕ) → Among (take t later) (length (take t later)) j → Among later t j
+  among_taken j B = let h : B.0 < t = omega (arith, taken, B.1) in (B.0, h, sym (get_or-take t later B.0 0 h) ∙ B.2)
+
+  pub asks_taken : {marks orders shifts before after : List ℕ} → Asks marks orders shifts (take t later) (length (take t later)) before after
+      → Asks marks orders shifts later t before after
+  asks_taken {marks} {orders} {shifts} {before} {after} A = record {
+    size = A.size;
+    done = λ u h. rw (get_or-take t later u 0 h) at (A.done u (omega (arith, taken)));
+    others = λ j. ⊎_elim
+        (λ (C : Among (take t later) (length (take t later)) j × (get_or after j 0 ≡ asked marks orders shifts j)). inl (among_taken j C.0, C.1))
+        (λ same. inr same)
+        (A.others j);
+  }
+
+-- The noholes below p are listed, and those from the word's first place a on are marked. Where p lies past the word, none lies between.
+pub record InWord (w orders shifts later : List ℕ) (a p word i t : ℕ) : Type 0 where
+  pub begun : a ≤ p
+  pub past : (x : ℕ) → a + 64 ≤ x → x < p → nohole w x ≡ false
+  pub ranked : i ≤ p
+  pub room : t ≤ i
+  pub lists : ListsWord w orders shifts later a p word i t
 
 module _ (w : List ℕ) where
   -- ---- The noholes and their shifts
@@ -195,12 +227,85 @@ module _ (w : List ℕ) where
           lists = rw (counts, e) (list_place short p i t k inside least W.lists first at_first);
         }
 
+  -- ---- From place to place
+
+  in_word : {orders shifts later : List ℕ} (a p word i t : ℕ) → a ≤ p → ((x : ℕ) → a + 64 ≤ x → x < p → nohole w x ≡ false)
+      → ListsWord w orders shifts later a p word i t → InWord w orders shifts later a p word i t
+  in_word a p word i t begun past W = record {
+    begun = begun;
+    past = past;
+    ranked = omega (arith, W.lists.rank, below_le w p);
+    room = W.lists.room;
+    lists = W;
+  }
+
+  -- Before hmax(1) there are holes alone,
+  pub word_from : {orders shifts later : List ℕ} {i t : ℕ} (a p first : ℕ) → 1 ≤ length w → first ≡ hmax w 1 → p ≡ max first a
+      → ListsNoholes w orders shifts later a i t → InWord w orders shifts later a p 0 i t
+  word_from a p first some at e L =
+      in_word a p 0 _ _ (omega arith) (λ x g h. hole_before_first w x some (omega arith))
+      (word_passed a a p (omega arith) (omega arith) (λ x g h. hole_before_first w x some (omega arith)) (word_begins a L))
+
+  -- one place more is listed, as the code counts,
+  module _ {orders shifts later : List ℕ} (a p word i t k m here : ℕ) (inside : p < length w) (in_it : p < a + 64) (least : k ≡ kmin w p)
+      (size : m ≡ length w) (counts : here ≡ from_bool (leb k m)) (I : InWord w orders shifts later a p word i t) where
+    is_nohole : here ≡ cond (leb k (length w)) 1 0
+    is_nohole = rw size at (counts ∙ one_if (leb k m))
+
+    pub word_fits : word + (here * 2 ^ (p - a)) % 2 ^ 64 < 2 ^ 64
+    word_fits = word_room a p word i t k here I.begun (omega (arith, I.begun)) inside least is_nohole I.lists
+
+    pub word_more : (first more also : ℕ) → length w ≤ longest_pattern → first ≡ hmax w 1 → also ≡ from_bool (leb k m)
+        → more ≡ from_bool (ltb (first + k) p)
+        → InWord w (set orders i p) (set shifts i k) (set later t i) a (p + 1) (word + (here * 2 ^ (p - a)) % 2 ^ 64) (i + also) (t + more)
+    word_more first more also short at_first again due =
+        let same : also ≡ here = again ∙ sym counts in
+        rw same (in_word a (p + 1) _ (i + here) (t + more) (omega (arith, I.begun)) (λ x g h. absurd (omega arith))
+        (word_place a p word i t k here I.begun (omega (arith, I.begun)) inside least is_nohole I.lists first more short at_first
+        (due ∙ one_if (ltb (first + k) p))))
+
+  -- and there are holes alone past the pattern.
+  pub word_to : {orders shifts later : List ℕ} (a p word i t : ℕ) → min (length w) (a + 64) ≤ p → InWord w orders shifts later a p word i t
+      → ListsWord w orders shifts later a (a + 64) word i t
+  word_to a p word i t l I = ⊎_elim
+      (λ (b : a + 64 < p). record {
+        marks = I.lists.marks ∙ bits_same (nohole w) a (a + 64 - a) (p - a) (omega arith) (λ x g h. I.past x (omega arith) (omega arith));
+        lists = list_moved p (a + 64) (below_same w (a + 64) p (omega arith) I.past) I.lists.lists;
+      })
+      (λ (b : p ≤ a + 64). word_passed a p (a + 64) I.begun b (λ x g h. past_hole w x (omega arith)) I.lists)
+      (less_or (a + 64) p)
+
+  -- ---- From word to word
+
+  -- One word more: it begins at the place 64 * i.
+  pub next_word : {orders shifts later : List ℕ} (marks : List ℕ) (i word d t : ℕ) → i < length marks
+      → ((k : ℕ) → k < i → get_or marks k 0 ≡ mark_word w k) → ListsWord w orders shifts later (i * 64) (i * 64 + 64) word d t
+      → ((k : ℕ) → k < i + 1 → get_or (set marks i word) k 0 ≡ mark_word w k) × ListsNoholes w orders shifts later ((i + 1) * 64) d t
+  unfolding mark_word
+  next_word marks i word d t inside each W =
+      let from : i * 64 ≡ 64 * i = omega arith in
+      let to : i * 64 + 64 ≡ (i + 1) * 64 = omega arith in
+      let all : i * 64 + 64 - i * 64 ≡ 64 = omega arith in
+      let bits_are : word ≡ bits (nohole w) (i * 64) 64 = rw all at W.marks in (
+        λ k l. after_store marks i word (λ x. x ≡ mark_word w k) k inside
+            (λ same. rw (same, ← from) bits_are)
+            (λ other. each k (omega arith)),
+        rw to at W.lists,
+      )
+
+  -- All four words are marked, and there are holes alone past the pattern.
+  pub all_words : (marks : List ℕ) → length marks ≡ 4 → ((k : ℕ) → k < 4 → get_or marks k 0 ≡ mark_word w k) → marks ≡ tabulate 4 (mark_word w)
+  all_words marks size each = by_entries 4 (mark_word w) marks size each
+
   -- ---- Their next ranks
 
   module _ {orders shifts later : List ℕ} (d t : ℕ) (L : ListsNoholes w orders shifts later (length w) d t) where
     pub all_listed : d ≡ noholes w
     unfolding noholes
     all_listed = L.rank
+
+    pub few_listed : t ≤ length w
+    few_listed = omega (arith, L.room, L.rank, below_le w (length w))
 
     pub askable : length w ≤ longest_pattern → Askable orders shifts later t
     askable short = record {

@@ -1,24 +1,33 @@
 // A pattern and its tables, which document 01 calls a card; and how it is built.
 #![tactic(auto)]
 
-mod entries;
+mod by_rank;
+mod counted;
 mod holes;
 mod kmin;
 mod noholes;
 mod sizes;
+mod tables;
 mod whole;
 
-ghost use Rattle.std.specs.Prelude.{◌≡◌, length};
+ghost use Rattle.std.specs.Prelude.{◌≡◌, length, replicate};
 ghost use Rattle.pattern.specs.Built.{zero_pattern, unbuilt, built_from, scratch_with};
 
 pub use classes::CLASSES;
-pub use entries::fill;
 pub use intake::{LONGEST_PATTERN, SCRATCH};
+use ones::WORDS;
 pub use sizes::RANKS;
+
+// Each entry becomes v.
+pub fn fill(part: &mut [u16], v: u16)
+    ensures filled { part.new ≡ replicate (length part.old) v }
+{
+    part.fill(v);
+}
 
 // Document 01's card: the pattern, its classes and its tables. The entries past those defined are 0.
 #[repr(C)]
-#[derive(Clone, Copy)]
+#[derive(Clone, Copy, PartialEq, Eq)]
 pub struct Pattern {
     // m, from 1 to 256
     pub len: usize,
@@ -34,7 +43,7 @@ pub struct Pattern {
     pub shift: [u16; RANKS],
     pub next: [u16; RANKS],
     // the nohole marks: place p at bit p mod 64 of word p div 64
-    pub marks: [u64; 4],
+    pub marks: [u64; WORDS],
 }
 
 // A pattern, and how many pairs of its letters were compared to build hmax. With the pattern first it is copied and checked fastest.
@@ -45,21 +54,23 @@ pub struct Built {
 }
 
 // The value that stands where there is no pattern.
+#[tactic(auto, unfolding(crate::specs::Built::zero_pattern))]
 pub fn zero_pattern() -> Pattern
     ensures answer { result ≡ zero_pattern }
 {
     Pattern {
         len: 0,
         noholes: 0,
-        bytes: [0u8; LONGEST_PATTERN],
-        classes: [0u8; CLASSES],
-        order: [0u8; LONGEST_PATTERN],
-        shift: [0u16; RANKS],
-        next: [0u16; RANKS],
-        marks: [0u64; 4],
+        bytes: [0; LONGEST_PATTERN],
+        classes: [0; CLASSES],
+        order: [0; LONGEST_PATTERN],
+        shift: [0; RANKS],
+        next: [0; RANKS],
+        marks: [0; WORDS],
     }
 }
 
+#[tactic(auto, unfolding(crate::specs::Built::unbuilt))]
 fn not_built() -> Built
     ensures { result ≡ unbuilt }
 {
@@ -75,17 +86,11 @@ pub fn build<'a>(bytes: &'a [u8], classes: &'a [u8], scratch: &mut [u16]) -> Bui
     ensures answer { result ≡ built_from bytes.now classes.now (length scratch.old) }
     ensures scratched { scratch.new ≡ scratch_with bytes.now classes.now scratch.old }
 {
-    let m = bytes.len();
-    if m < 1 {
-        return not_built();
-    }
-    if LONGEST_PATTERN < m {
-        return not_built();
-    }
-    if classes.len() != CLASSES {
-        return not_built();
-    }
-    if scratch.len() < SCRATCH {
+    if bytes.is_empty()
+        || LONGEST_PATTERN < bytes.len()
+        || classes.len() != CLASSES
+        || scratch.len() < SCRATCH
+    {
         return not_built();
     }
     whole::whole(bytes, classes, scratch)

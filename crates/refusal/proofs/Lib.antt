@@ -1,1 +1,2 @@
 pub mod NotZero
+pub mod Tests

@@ -1,48 +1,48 @@
-// The refusals of document 01, "Turned away", and those that document 02 adds: a variant for each row of the table, with the trade's word for
-// it.
+// The refusals of document 01, "Turned away", and those that document 02 adds: a variant for each row of the table, by its number there, with the
+// trade's word for it.
 #![tactic(auto)]
 
 ghost use Rattle.std.specs.Prelude.{◌≡◌};
 ghost use Rattle.refusal.specs.Numbers.{number_of};
 
-#[derive(Clone, Copy)]
+#[derive(Clone, Copy, Debug, PartialEq, Eq)]
 pub enum Refusal {
     // no motif
-    NoPattern,
+    NoPattern = 1,
     // long motif
-    LongPattern,
+    LongPattern = 2,
     // short bench
-    ShortScratch,
+    ShortScratch = 3,
     // false card
-    FalsePattern,
+    FalsePattern = 4,
     // long record
-    LongText,
+    LongText = 5,
     // short order
-    ShortInput,
+    ShortInput = 6,
     // C-11: the reel has under 12 bytes or wrong closing bytes
-    NoTrailer,
+    NoTrailer = 7,
     // C-11: over 4,096 records, or the directory isn't exactly the bytes from its start to the trailer
-    FalseDirectory,
+    FalseDirectory = 8,
     // C-11: the records don't touch from byte 0 to the directory start
-    RecordsApart,
+    RecordsApart = 9,
     // C-13: the motif holds byte 0
-    ZeroInPattern,
+    ZeroInPattern = 10,
     // C-14: the lent list is shorter than the record
-    ShortLengths,
+    ShortLengths = 11,
     // C-19: the chart hasn't 256 bytes
-    ClassesNot256,
+    ClassesNot256 = 14,
     // C-19: another value shares the class of 0
-    ZeroClassShared,
+    ZeroClassShared = 15,
     // C-20: the bytes of a house order aren't m different places
-    FalseOrder,
+    FalseOrder = 16,
     // C-21: the journal is shorter than the cap
-    ShortJournal,
+    ShortJournal = 17,
     // C-21: an entry's place isn't the one the rules compare next, or entries remain after done or full
-    FalseJournal,
+    FalseJournal = 18,
     // C-22: the used entries aren't strictly ascending or are more than the list holds
-    FalseList,
+    FalseList = 19,
     // C-22: the updated places exceed the list
-    ShortList,
+    ShortList = 20,
 }
 
 impl Refusal {
@@ -50,25 +50,6 @@ impl Refusal {
     pub fn number(self) -> u8
         ensures { result ≡ number_of self }
     {
-        match self {
-            Refusal::NoPattern => 1,
-            Refusal::LongPattern => 2,
-            Refusal::ShortScratch => 3,
-            Refusal::FalsePattern => 4,
-            Refusal::LongText => 5,
-            Refusal::ShortInput => 6,
-            Refusal::NoTrailer => 7,
-            Refusal::FalseDirectory => 8,
-            Refusal::RecordsApart => 9,
-            Refusal::ZeroInPattern => 10,
-            Refusal::ShortLengths => 11,
-            Refusal::ClassesNot256 => 14,
-            Refusal::ZeroClassShared => 15,
-            Refusal::FalseOrder => 16,
-            Refusal::ShortJournal => 17,
-            Refusal::FalseJournal => 18,
-            Refusal::FalseList => 19,
-            Refusal::ShortList => 20,
-        }
+        self as u8
     }
 }

@@ -127,28 +127,24 @@ module _ (p : Pattern) (n : ℕ) (journal lent : List ℕ) where
     plain e = (rw (word_plain p e) at A.answer, rw (word_plain p e) at A.list)
 
     -- What `replay` ensures of its answer and its list.
-    pub promises : (r ≡ answer_of p n journal (length lent)) × ((after ≡ list_of p n journal lent)
-        × (OnAnyText p n journal lent after r × (GivesBack p n journal lent after r
-        × (IfRan (Whole (word_of p) n journal (length lent)) r × (IfRan (Columns (word_of p) asked.last.made) r
-        × (IfRan (UnderCeiling (length (word_of p)) n) r
-        × (p.classes ≡ identity → (r ≡ plain_answer_of p n journal (length lent)) × (after ≡ plain_list_of p n journal lent))))))))
+    pub promises : record {
+      answer : r ≡ answer_of p n journal (length lent);
+      list : after ≡ list_of p n journal lent;
+      text : OnAnyText p n journal lent after r;
+      own : GivesBack p n journal lent after r;
+      whole : IfRan (Whole (word_of p) n journal (length lent)) r;
+      columns : IfRan (Columns (word_of p) asked.last.made) r;
+      ceiling : IfRan (UnderCeiling (length (word_of p)) n) r;
+      plain : p.classes ≡ identity → (r ≡ plain_answer_of p n journal (length lent)) × (after ≡ plain_list_of p n journal lent);
+    }
     unfolding answer_of list_of
-    promises = (
-      A.answer,
-      (
-        A.list,
-        (
-          on_any_text,
-          (
-            gives_back,
-            (
-              whole,
-              (
-                promise (λ _. Columns (word_of p) asked.last.made) (λ e. in_columns (word_of p) asked),
-                (under_ceiling, plain),
-              ),
-            ),
-          ),
-        ),
-      ),
-    )
+    promises = record {
+      answer = A.answer;
+      list = A.list;
+      text = on_any_text;
+      own = gives_back;
+      whole = whole;
+      columns = promise (λ _. Columns (word_of p) asked.last.made) (λ e. in_columns (word_of p) asked);
+      ceiling = under_ceiling;
+      plain = plain;
+    }

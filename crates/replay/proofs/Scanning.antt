@@ -2,14 +2,15 @@
 use Prim.Native.Nat.{ℕ, ◌+◌, ◌-◌, ◌/◌, ◌%◌, ◌≤◌, ◌<◌}
 use mathlib.Core.Path.{◌≡◌, refl, sym, ap, ◌∙◌}
 use mathlib.Core.Logic.{⊎_elim}
-use mathlib.Core.Bool.{Bool, true, false, true≢false}
+use mathlib.Core.Bool.{Bool, true, false}
 use mathlib.Core.List.{List}
 use native.Mathlib.Omega.{arith}
+use Rattle.std.specs.Prelude.{◌≢◌, Option, Some, None, MatchOption}
 use lib.Dec.{eqb}
 use lib.ListN.{length, get_or, take, set, length-set}
 use borrow.Author.Tests.{eqb-true, eqb-false, eq-eqb, ne_eqb}
 use Rattle.words.specs.Numbers.{tabulate}
-use Rattle.words.proofs.Cases.{true_or_false, less_or}
+use Rattle.words.proofs.Cases.{true_or_false}
 use Rattle.words.proofs.Tabulate.{length_tabulate}
 use Rattle.columns.specs.Ended.{ended_with}
 use Rattle.journal.specs.Journal.{journal_of}
@@ -17,7 +18,7 @@ use Rattle.journal.specs.Replay.{journal_source, replayed, accepted}
 use Rattle.journal.proofs.Entries.{half, known_by}
 use Rattle.journal.proofs.Replaying.{accepted_is, accepted_of}
 use Rattle.journal.proofs.Recording.{Begins, begins_start, begins_more, read_whole, entries_remain}
-use Rattle.journal.proofs.Counting.{Counts, counts_start, Ends, all_made, count_done, count_entry, count_matched, count_missed, count_listed}
+use Rattle.journal.proofs.Counting.{Counts, counts_start, Ends, all_made, count_done, count_entry, count_matched, count_missed, count_listed, counted}
 use Rattle.rules.specs.Rules.{Compared, search}
 use Rattle.rules.specs.Colussi.{colussi_plan}
 use Rattle.rules.specs.Internal.Passing.{Established}
@@ -26,8 +27,13 @@ use Rattle.rules.specs.declared.Ending.{Ending}
 use Rattle.rules.specs.declared.Ending.TheVariants.{Done}
 use Rattle.rules.specs.declared.Report.{Report}
 use Rattle.search.specs.Internal.ColussiScan.{LentOrder, LentMoves, edge_after_rank}
-use Rattle.search.proofs.LentTables.{word_some}
-use Rattle.replay.specs.Internal.{Followed}
+use Rattle.rules.proofs.Scans.{rank_upto, column_upto}
+use Rattle.search.proofs.LentTables.{word_some, word_length, noholes_upto}
+use Rattle.replay.specs.Internal.{Accepting}
+
+-- What a pass tells.
+abbrev pub Told : List ℕ → ℕ → ℕ → List ℕ → List ℕ → List ℕ → Option Report → Type 0
+Told w n size journal before after answer = MatchOption answer (accepted w n journal size ≡ false) (Accepting w n size journal before after)
 
 -- The replay goes by this state, with a list of the size that it is to have. That is the lent one, if it has this size.
 pub record Replays (letters : List ℕ) (m d n size : ℕ) (journal before after : List ℕ) (b i e c h k : ℕ) : Type 0 where
@@ -71,6 +77,16 @@ module _ (letters order : List ℕ) (m d : ℕ) (T : LentOrder letters order m d
   pub written_upto : k ≤ size
   written_upto = omega (arith, F.counts.by_rank.scans.follows.room, list_size)
 
+  -- The rank is a rank, and comparisons at holes are not more than all comparisons.
+  pub bounds : (m ≤ 256) × (d ≤ m) × (i ≤ m) × (h + (i - d) ≤ c) × (c ≤ length journal)
+  bounds = (
+    T.short,
+    noholes_upto letters order m d T,
+    omega (arith, rank_upto F.counts.by_rank.scans, word_length letters order m d T),
+    column_upto (counted letters order m d T F.counts),
+    F.counts.within,
+  )
+
   -- The replay, with a list of its size.
   sized_replay : search (colussi_plan w) (journal_source n journal) (length journal) (length F.first) ≡ replayed w n journal size
   unfolding replayed
@@ -91,24 +107,30 @@ module _ (letters order : List ℕ) (m d : ℕ) (T : LentOrder letters order m d
       (λ no. no)
       (true_or_false (accepted w n journal size))
 
-  -- The pass ends here.
-  pub replays_end : (x : Ending) → Ends letters order m d T F.counts x
-      → Followed w n size journal before after (eqb c (length journal)) (ended_with x c (c - (h + (i - d))) (h + (i - d)) k)
-  replays_end x R = record {
-    told = ⊎_elim
-        (λ (l : c < length journal). ne_eqb c (length journal) (λ z. omega arith) ∙ sym (refuses (entries_remain F.begins made l)))
-        (λ (l : length journal ≤ c).
-        let whole : c ≡ length journal = omega (arith, F.counts.within) in
-        eq-eqb c (length journal) whole ∙ sym (accepts (read_whole F.begins made whole)))
-        (less_or c (length journal));
-    reported = λ _. R.report ∙ ap (report_of w) sized_replay;
-    list = λ _ e.
-        let L = F.lent e in
-        sym L.1 ∙ R.list ∙ ap (λ s. filled s F.first) sized_replay ∙ ap (filled (replayed w n journal size)) L.0;
-  }
-    where
-      made : length all ≡ c
-      made = all_made letters order m d T F.counts x R
+  -- ---- The pass ends here
+
+  module _ (x : Ending) (R : Ends letters order m d T F.counts x) where
+    made : length all ≡ c
+    made = all_made letters order m d T F.counts x R
+
+    pub whole_read : c ≡ length journal → Accepting w n size journal before after (ended_with x c (c - (h + (i - d))) (h + (i - d)) k)
+    whole_read whole = record {
+      accepts = accepts (read_whole F.begins made whole);
+      reported = R.report ∙ ap (report_of w) sized_replay;
+      list = λ e.
+          let L = F.lent e in
+          sym L.1 ∙ R.list ∙ ap (λ s. filled s F.first) sized_replay ∙ ap (filled (replayed w n journal size)) L.0;
+    }
+
+    some_remain : (c ≡ length journal → ⊥) → accepted w n journal size ≡ false
+    some_remain not = refuses (entries_remain F.begins made (omega (arith, F.counts.within)))
+
+    -- The report is told, unless entries remain.
+    pub replays_end : (answer : Option Report)
+        → MatchOption answer (c ≢ length journal) (λ r. (c ≡ length journal) × (r ≡ ended_with x c (c - (h + (i - d))) (h + (i - d)) k))
+        → Told w n size journal before after answer
+    replays_end None remain = some_remain remain
+    replays_end (Some r) read = rw read.1 (whole_read read.0)
 
   module _ (fits : b + m ≤ n) where
     -- A comparison is due at rank i, whose place is read off as o, and the journal has an entry for it.
@@ -117,14 +139,10 @@ module _ (letters order : List ℕ) (m d : ℕ) (T : LentOrder letters order m d
       more z = omega arith
 
       -- An entry of another place is not the replay's.
-      pub another_place : (get_or journal c 0 / 2 ≡ b + o → ⊥) → {r : Report} → Followed w n size journal before after false r
-      another_place other = record {
-        told = sym (refuses λ is.
-            let E = count_entry letters order m d T F.counts fits o rank read beyond more (eqb (get_or journal c 0 % 2) 1) refl in
-            other (ap (λ v. v / 2) (sym (ap (λ l. get_or l c 0) is) ∙ E.is) ∙ half (b + o) (eqb (get_or journal c 0 % 2) 1)));
-        reported = λ z. absurd (true≢false (sym z));
-        list = λ z _. absurd (true≢false (sym z));
-      }
+      pub another_place : (get_or journal c 0 / 2 ≡ b + o → ⊥) → accepted w n journal size ≡ false
+      another_place other = refuses λ is.
+          let E = count_entry letters order m d T F.counts fits o rank read beyond more (eqb (get_or journal c 0 % 2) 1) refl in
+          other (ap (λ v. v / 2) (sym (ap (λ l. get_or l c 0) is) ∙ E.is) ∙ half (b + o) (eqb (get_or journal c 0 % 2) 1))
 
       module _ (place : get_or journal c 0 / 2 ≡ b + o) where
         -- The next entry is read.
@@ -170,14 +188,11 @@ module _ (letters order : List ℕ) (m d : ℕ) (T : LentOrder letters order m d
     }
 
 -- A text without a window: the pass is done before it begins, and accepts the journal without an entry.
-pub none_accepted : (letters order : List ℕ) (m d : ℕ) → LentOrder letters order m d → (n size : ℕ) (journal before : List ℕ) → n < m
-    → Followed (take m letters) n size journal before before (eqb 0 (length journal)) (ended_with Done 0 0 0 0)
-none_accepted letters order m d T n size journal before l =
+pub at_once : (letters order : List ℕ) (m d : ℕ) → LentOrder letters order m d → (n size : ℕ) (journal before : List ℕ) → n < m
+    → (answer : Option Report)
+    → MatchOption answer (0 ≢ length journal) (λ r. (0 ≡ length journal) × (r ≡ ended_with Done 0 0 0 0))
+    → Told (take m letters) n size journal before before answer
+at_once letters order m d T n size journal before l answer read =
     let F = replays_start letters m d n size journal before in
     let none : 0 + (0 - d) ≡ 0 = omega arith in
-    rw none at (replays_end letters order m d T F Done (count_done letters order m d T F.counts (omega arith)))
-
--- The same of whatever pattern the tables are.
-abbrev pub ReplaysFor : List ℕ → List ℕ → List ℕ → ℕ → ℕ → ℕ → ℕ → List ℕ → List ℕ → List ℕ → ℕ → ℕ → ℕ → ℕ → ℕ → ℕ → Type 0
-ReplaysFor order shifts nexts m d n size journal before after b i e c h k = (letters : List ℕ) → LentOrder letters order m d
-    → LentMoves letters shifts nexts m → Replays letters m d n size journal before after b i e c h k
+    replays_end letters order m d T F Done (count_done letters order m d T F.counts (omega arith)) answer (rw none read)

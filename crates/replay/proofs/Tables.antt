@@ -1,39 +1,42 @@
--- The tables of a prepared pattern as a pass is lent them: those of its letters. Assumes nothing.
+-- The tables of a prepared pattern are those of its letters. Assumes nothing.
 use Prim.Native.Nat.{ℕ}
 use mathlib.Core.Path.{◌≡◌, refl, sym, ap, ◌∙◌}
-use mathlib.Core.Bool.{Bool}
 use mathlib.Core.List.{List, [], ◌∷◌, ◌++◌}
 use native.Mathlib.Omega.{arith}
 use lib.ListN.{length, take}
 use lib.Seq.{take-length}
-use Rattle.checked.proofs.Reading.{Fields}
+use Rattle.std.specs.Prelude.{true, false, Option, Some, None, is_some}
+use Rattle.checked.specs.Check.{IsPrepared}
+use Rattle.checked.proofs.Reading.{fields_of}
 use Rattle.pattern.specs.Letters.{word_of}
 use Rattle.pattern.specs.declared.Pattern.{Pattern}
+use Rattle.journal.specs.Replay.{accepted}
 use Rattle.rules.specs.declared.Report.{Report}
+use Rattle.replay.proofs.Scanning.{Told}
 use Rattle.search.specs.Internal.ColussiScan.{LentOrder, LentMoves}
 use Rattle.search.proofs.LentTables.{order_of, moves_of}
-use Rattle.replay.specs.Internal.{Lent, Followed, FollowedFor}
 
-module _ (p : Pattern) (F : Fields p) where
-  whole : take p.len (word_of p) ≡ word_of p
-  whole = ap (λ m. take m (word_of p)) (sym F.word) ∙ take-length (word_of p)
+module _ (p : Pattern) (G : IsPrepared p) where
+  pub whole : take p.len (word_of p) ≡ word_of p
+  whole = ap (λ m. take m (word_of p)) (sym (fields_of p G).word) ∙ take-length (word_of p)
 
-  places : LentOrder (word_of p) p.order p.len p.noholes
-  places = order_of p F whole (omega (arith, F.word))
+  pub places : LentOrder (word_of p) p.order p.len p.noholes
+  places = order_of p (fields_of p G) whole (omega (arith, (fields_of p G).word))
 
-  moves : LentMoves (word_of p) p.shift p.next p.len
-  moves = moves_of p F whole (omega (arith, F.word))
-
-  pub lent_tables : Lent p.order p.shift p.next p.len p.noholes
-  lent_tables = record { letters = word_of p; places = places; moves = moves }
-
-  -- What a pass tells of whatever pattern the tables are, it tells of these letters.
-  pub of_the_word : {n size : ℕ} {journal before after : List ℕ} {accepts : Bool} {report : Report}
-      → FollowedFor p.order p.shift p.next p.len p.noholes n size journal before after accepts report
-      → Followed (word_of p) n size journal before after accepts report
-  of_the_word G = rw whole at (G (word_of p) places moves)
+  pub moves : LentMoves (word_of p) p.shift p.next p.len
+  moves = moves_of p (fields_of p G) whole (omega (arith, (fields_of p G).word))
 
 -- A list after a part of it without entries was lent.
 pub nothing_written : (part rest : List ℕ) → length part ≡ 0 → part ++ rest ≡ rest
 nothing_written [] rest e = refl
 nothing_written (x ∷ part) rest e = absurd (omega arith)
+
+-- A pass that tells a report accepts the journal, and one that tells none does not.
+module _ (w : List ℕ) (n size : ℕ) (journal before after : List ℕ) where
+  pub some_accepts : (answer : Option Report) → Told w n size journal before after answer → is_some answer ≡ true → accepted w n journal size ≡ true
+  some_accepts None told some = cc
+  some_accepts (Some r) told some = told.accepts
+
+  pub none_refuses : (answer : Option Report) → Told w n size journal before after answer → is_some answer ≡ false → accepted w n journal size ≡ false
+  none_refuses None told none = told
+  none_refuses (Some r) told none = cc

@@ -1,43 +1,26 @@
-// A pass over a journal by the rules of Colussi's order, over the tables of a pattern that are lent. The answers are the journal's, and neither the
-// text nor the pattern's letters are asked for. Comparisons at holes are added up as a window is left, from the rank that it is left with: the ranks
-// from d on are theirs.
-ghost use Rattle.std.specs.Prelude.{◌≡◌, ◌+◌, ◌-◌, ◌^◌, ◌≤◌, ◌<◌, eqb, length, get_or, set};
+// A pass over a journal by the rules of Colussi's order, by the tables of a pattern. The answers are the journal's, and neither the text nor the
+// pattern's letters are asked for. Comparisons at holes are added up as a window is left, from the rank that it is left with: the ranks from d on are
+// theirs.
+ghost use Rattle.std.specs.Prelude.{◌≡◌, ◌≢◌, ◌+◌, ◌-◌, ◌^◌, ◌≤◌, ◌<◌, MatchOption, false, length};
 ghost use Rattle.admission.specs.Admitted.{longest_text};
+ghost use Rattle.checked.specs.Check.{IsPrepared};
 ghost use Rattle.columns.specs.Ended.{ended_with};
+ghost use Rattle.intake.specs.Sizes.{longest_pattern};
+ghost use Rattle.journal.specs.Replay.{accepted};
+ghost use Rattle.pattern.specs.Letters.{word_of};
 ghost use Rattle.search.specs.Internal.ColussiScan.{DueAt};
-ghost use Rattle.replay.specs.Internal.{Lent, FollowedFor};
+ghost use Rattle.replay.specs.Internal.{Accepting};
 
 use columns::with_holes;
-use entries::{minus, wide8, wide16, wide32};
+use pattern::Pattern;
 use rules::{Ending, Report};
 
 // Whether a comparison is due at rank i of window b: it is not past the last rank, nor where the text is known.
-fn due(order: &[u8], m: usize, b: usize, i: usize, e: usize) -> bool
-    requires { (i ≤ m) × (m ≤ length order.now) × (b < 2 ^ 32) }
-    ensures { DueAt order.now m b i e result }
+fn due(pattern: &Pattern, b: usize, i: usize, e: usize) -> bool
+    requires { (pattern.now.len ≤ longest_pattern) × (b < 2 ^ 32) }
+    ensures { DueAt pattern.now.order pattern.now.len b i e result }
 {
-    if i == m {
-        return false;
-    }
-    e <= b + wide8(order[i])
-}
-
-// The next window, and the rank that it starts with.
-#[derive(Clone, Copy)]
-struct Next {
-    window: usize,
-    rank: usize,
-}
-
-// Window b is left with a rank.
-fn leave<'a>(shift: &'a [u16], next: &'a [u16], b: usize, rank: usize) -> Next
-    requires { (rank < length shift.now) × (rank < length next.now) × (b < 2 ^ 32) }
-    ensures { (result.window ≡ b + get_or shift.now rank 0) × (result.rank ≡ get_or next.now rank 0) }
-{
-    Next {
-        window: b + wide16(shift[rank]),
-        rank: wide16(next[rank]),
-    }
+    i < pattern.len && e <= b + usize::from(pattern.order[i])
 }
 
 // The report of a pass that ends at rank i with c comparisons made, h of them at holes in the windows that it left.
@@ -45,54 +28,34 @@ fn ended(ending: Ending, c: usize, h: usize, i: usize, d: usize, k: usize) -> Re
     requires { h + (i - d) < 2 ^ 64 }
     ensures { result ≡ ended_with ending c (c - (h + (i - d))) (h + (i - d)) k }
 {
-    with_holes(ending, c as u64, (h + minus(i, d)) as u64, k)
+    with_holes(ending, c as u64, (h + i.saturating_sub(d)) as u64, k)
 }
 
-// Writes an entry, if the list goes so far.
-fn put(list: &mut [u32], k: usize, x: u32)
-    ensures { list.new ≡ set list.old k x }
+// A report, unless entries remain after the first c.
+fn if_all_read(report: Report, c: usize, journal: &[u32]) -> Option<Report>
+    ensures { MatchOption result (c ≢ length journal.now) (λ r. (c ≡ length journal.now) × (r ≡ report)) }
 {
-    if k < list.len() {
-        list[k] = x;
-    }
+    (c == journal.len()).then_some(report)
 }
 
-// Whether no entry remains after c of them.
-fn all_read(journal: &[u32], c: usize) -> bool
-    ensures { result ≡ eqb c (length journal.now) }
-{
-    c == journal.len()
-}
-
-// Whether the journal is accepted; and the report, if it is.
-#[derive(Clone, Copy)]
-pub struct Pass {
-    pub accepts: bool,
-    pub report: Report,
-}
-
-// The pass for a text of n bytes and a list of so many entries. Positions are written as far as the lent list goes: with an empty one the pass only
-// follows.
-pub fn follow<'a>(
-    order: &'a [u8],
-    shift: &'a [u16],
-    next: &'a [u16],
-    m: usize,
-    d: usize,
+// The pass for a text of n bytes and a list of so many entries: its report, if the journal is accepted. Positions are written as far as the lent list
+// goes: with an empty one the pass only follows, and where it is inlined it then adds nothing up.
+#[inline]
+pub fn follow(
+    pattern: &Pattern,
     n: usize,
     size: usize,
-    journal: &'a [u32],
+    journal: &[u32],
     positions: &mut [u32],
-) -> Pass
-    requires lent { Lent order.now shift.now next.now m d }
+) -> Option<Report>
+    requires prepared { IsPrepared pattern.now }
     requires n_le_longest_text { n ≤ longest_text }
-    ensures { FollowedFor order.now shift.now next.now m d n size journal.now positions.old positions.new result.accepts result.report }
+    ensures { MatchOption result (accepted (word_of pattern.now) n journal.now size ≡ false) (Accepting (word_of pattern.now) n size journal.now positions.old positions.new) }
 {
+    let m = pattern.len;
+    let d = pattern.noholes;
     if n < m {
-        return Pass {
-            accepts: all_read(journal, 0),
-            report: with_holes(Ending::Done, 0, 0, 0),
-        };
+        return if_all_read(with_holes(Ending::Done, 0, 0, 0), 0, journal);
     }
     let last = n - m;
     let mut b: usize = 0;
@@ -102,53 +65,41 @@ pub fn follow<'a>(
     let mut h: usize = 0;
     let mut k: usize = 0;
     while b <= last {
-        if due(order, m, b, i, e) {
+        if due(pattern, b, i, e) {
             if c == journal.len() {
-                return Pass {
-                    accepts: true,
-                    report: ended(Ending::Spent(b), c, h, i, d, k),
-                };
+                return Some(ended(Ending::Spent(b), c, h, i, d, k));
             }
-            let v = wide32(journal[c]);
-            if v / 2 != b + wide8(order[i]) {
-                return Pass {
-                    accepts: false,
-                    report: with_holes(Ending::Done, 0, 0, 0),
-                };
+            let v = journal[c] as usize;
+            if v / 2 != b + usize::from(pattern.order[i]) {
+                return None;
             }
             c += 1;
-            if v % 2 == 1 {
+            let equal = v % 2 == 1;
+            if equal {
                 i += 1;
             } else {
-                let after = leave(shift, next, b, i);
-                if i < d {
-                    b = after.window;
-                    i = after.rank;
-                } else {
-                    h += i + 1 - d;
-                    e = b + m;
-                    b = after.window;
-                    i = after.rank;
+                let (left, rank) = (b, i);
+                b += usize::from(pattern.shift[rank]);
+                i = usize::from(pattern.next[rank]);
+                // Last, so that it stays a branch: most windows are left at a rank before d.
+                if d <= rank {
+                    h += rank + 1 - d;
+                    e = left + m;
                 }
             }
         } else {
             if k == size {
-                return Pass {
-                    accepts: all_read(journal, c),
-                    report: ended(Ending::Full(b), c, h, i, d, k),
-                };
+                return if_all_read(ended(Ending::Full(b), c, h, i, d, k), c, journal);
             }
-            put(positions, k, b as u32);
+            if k < positions.len() {
+                positions[k] = b as u32;
+            }
             k += 1;
             h += i - d;
             e = b + m;
-            let after = leave(shift, next, b, m);
-            b = after.window;
-            i = after.rank;
+            b += usize::from(pattern.shift[m]);
+            i = usize::from(pattern.next[m]);
         }
     }
-    Pass {
-        accepts: all_read(journal, c),
-        report: ended(Ending::Done, c, h, i, d, k),
-    }
+    if_all_read(ended(Ending::Done, c, h, i, d, k), c, journal)
 }

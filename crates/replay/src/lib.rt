@@ -13,6 +13,7 @@ ghost use Rattle.replay.specs.Answer.{answer_of, list_of, plain_answer_of, plain
 ghost use Rattle.replay.specs.Promise.{OnAnyText, GivesBack, Whole};
 
 use admission::{Admission, admit};
+use follow::follow;
 use pattern::Pattern;
 use refusal::Refusal;
 pub use rules::{Ending, Report};
@@ -42,33 +43,13 @@ pub fn replay<'a>(
     match door {
         Admission::Admitted => {
             let size = positions.len();
-            let first = follow::follow(
-                &pattern.order,
-                &pattern.shift,
-                &pattern.next,
-                pattern.len,
-                pattern.noholes,
-                n,
-                size,
-                journal,
-                &mut positions[..0],
-            );
-            if !first.accepts {
+            if follow(&pattern, n, size, journal, &mut positions[..0]).is_none() {
                 return SearchAnswer::Refused(Refusal::FalseJournal);
             }
-            let second = follow::follow(
-                &pattern.order,
-                &pattern.shift,
-                &pattern.next,
-                pattern.len,
-                pattern.noholes,
-                n,
-                size,
-                journal,
-                positions,
-            );
-            let report = second.report;
-            SearchAnswer::Ran(report)
+            match follow(&pattern, n, size, journal, positions) {
+                Some(report) => SearchAnswer::Ran(report),
+                None => SearchAnswer::Refused(Refusal::FalseJournal),
+            }
         }
         Admission::Refused(why) => SearchAnswer::Refused(why),
     }

@@ -2,7 +2,7 @@
 use Prim.Native.Nat.{ℕ, suc, ◌+◌, ◌-◌, ◌≤◌, ◌<◌}
 use mathlib.Core.Path.{◌≡◌, refl, sym, ap, ◌∙◌}
 use mathlib.Core.Logic.{inl, inr, ⊎_elim}
-use mathlib.Core.Bool.{true, false, cond, true≢false}
+use mathlib.Core.Bool.{Bool, true, false, cond, true≢false}
 use mathlib.Core.List.{List}
 use native.Mathlib.Omega.{arith}
 use native.Mathlib.Numerals.{add-one}
@@ -30,7 +30,7 @@ use Rattle.rules.proofs.ColussiRanges.{colussi_ranges}
 use Rattle.search.specs.Internal.RankZero.{Ahead}
 use Rattle.search.specs.Internal.ColussiScan.{LentOrder, LentMoves, DueAt, edge_after_rank}
 use Rattle.search.proofs.LentTables.{word_length, word_some, noholes_upto, place_is, in_window}
-use Rattle.rules.proofs.Scans.{Scans, scans_start, scans_as, scans_done, scans_spent, scans_matched, scans_missed, scans_full, scans_listed}
+use Rattle.rules.proofs.Scans.{Scans, column_upto, scans_start, scans_as, scans_done, scans_spent, scans_matched, scans_missed, scans_full, scans_listed}
 use Rattle.search.proofs.RankZero.{ByOne, scans_ahead}
 
 plan_edge : (w : List ℕ) → (colussi_plan w).edge_from ≡ noholes w
@@ -68,9 +68,20 @@ by_rank_start letters m d source cap before = record {
   noholes_due = λ l. omega arith;
 }
 
+-- Neither what is left nor the comparisons at holes are more than the cap.
+pub within_cap : {letters : List ℕ} {m d : ℕ} {source : Source} {cap : ℕ} {before after : List ℕ} {b i e left h k : ℕ}
+    → ScansByRank letters m d source cap before after b i e left h k → (left ≤ cap) × (h + (i - d) ≤ cap)
+within_cap F = (F.within, omega (arith, column_upto F.scans))
+
 module _ (letters order : List ℕ) (m d : ℕ) (T : LentOrder letters order m d) where
   word : length (take m letters) ≡ m
   word = word_length letters order m d T
+
+  -- A comparison that is due, whose place is read off as o: its rank is one, its place is not left of the known edge, and lies in the window.
+  pub due_place : {b i e o : ℕ} {r : Bool} → DueAt order m b i e r → r ≡ true → o ≡ get_or order i 0 → (i < m) × (e ≤ b + o) × (o < m)
+  due_place {b} {i} {e} {o} D is read =
+      let told = D.yes is in
+      (told.0, omega (arith, told.1), in_window letters order m d T i o told.0 read)
 
   pub ranges : Ranges (colussi_plan (take m letters))
   ranges = colussi_ranges (take m letters) (word_some letters order m d T)
@@ -208,6 +219,13 @@ module _ (letters order : List ℕ) (m d : ℕ) (T : LentOrder letters order m d
               noholes_due = rw (at_b, at_i, at-e, M.shift_at i (omega arith), M.next_at i (omega arith))
                   (missed_due b i e rank (omega (arith, beyond, read_place)));
             }
+
+      -- Where none is due the pattern occurs.
+      pub none_due : {r : Bool} → DueAt order m b i e r → r ≡ false → Established (colussi_plan (take m letters)) b i e
+      none_due D is = ⊎_elim
+          (λ (l : m ≤ i). inl (omega (arith, word)))
+          (λ (l : (i < m) × (b + get_or order i 0 < e)). scan_known (get_or order i 0) l.0 refl l.1)
+          (D.no is)
 
       -- The pattern occurs.
       module _ (occurs : Established (colussi_plan (take m letters)) b i e) where

@@ -2,7 +2,7 @@
 use Prim.Native.Nat.{ℕ, suc, ◌+◌, ◌-◌, ◌≤◌, ◌<◌}
 use mathlib.Core.Path.{◌≡◌, refl, sym, ap, ◌∙◌}
 use mathlib.Core.Logic.{inl, ⊎_elim}
-use mathlib.Core.Bool.{Bool, true, false, cond}
+use mathlib.Core.Bool.{true, false, cond}
 use mathlib.Core.List.{List}
 use native.Mathlib.Omega.{arith}
 use native.Mathlib.Numerals.{add-one}
@@ -27,9 +27,9 @@ use Rattle.rules.specs.declared.Ending.TheVariants.{Done, Spent, Full}
 use Rattle.rules.proofs.Columns.{Split, by_noholes}
 use Rattle.rules.proofs.KmpMethod.{kmp_shift_nohole, kmp_shift_hole, kmp_shift_last, kmp_shift_moves, edge_stays}
 use Rattle.rules.proofs.Following.{Ranges}
-use Rattle.rules.proofs.Scans.{Scans, rank_upto, scans_start, scans_as, scans_done, scans_spent, scans_matched, scans_missed, scans_full, scans_listed}
+use Rattle.rules.proofs.Scans.{Scans, rank_upto, column_upto, scans_start, scans_as, scans_done, scans_spent, scans_matched, scans_missed, scans_full, scans_listed}
 use Rattle.search.specs.Internal.RankZero.{Ahead}
-use Rattle.search.specs.Internal.KmpScan.{StandsAt, KmpTables, ByRank}
+use Rattle.search.specs.Internal.KmpScan.{KmpTables, ByRank}
 use Rattle.search.proofs.RankZero.{ByOne, scans_ahead}
 
 -- ---- The tables by place
@@ -66,33 +66,34 @@ module _ {w order shifts : List ℕ} {m d : ℕ} (B : ByRank w order shifts m d)
     number = sym (count_zero (nohole w));
   }
 
-  module _ {by_place belows : List ℕ} {p j : ℕ} (A : AtPlace w by_place belows p j) (inside : p < m) (short : m ≤ 256) {r : Bool} (S : StandsAt order d j p r) where
+  module _ {by_place belows : List ℕ} {p j : ℕ} (A : AtPlace w by_place belows p j) (inside : p < m) (short : m ≤ 256) where
     -- Place p is a nohole, of rank j.
-    module _ (yes : r ≡ true) where
-      early : j < noholes w
-      early = omega (arith, (S.yes yes).0, B.noholes)
+    module _ (early : j < d) (at : get_or order j 0 ≡ p) where
+      before_holes : j < noholes w
+      before_holes = omega (arith, B.noholes)
 
       here : place w j ≡ p
-      here = sym (B.place_at j (omega (arith, early, noholes_le w, B.word))) ∙ (S.yes yes).1
+      here = sym (B.place_at j (omega (arith, before_holes, noholes_le w, B.word))) ∙ at
 
       is : nohole w p ≡ true
-      is = rw here at (nohole_rank w j early).is
+      is = rw here at (nohole_rank w j before_holes).is
 
       pub place_nohole : {s v : ℕ} → s ≡ get_or shifts j 0 → v ≡ j → AtPlace w (set by_place p s) (set belows p v) (p + 1) (j + 1)
       place_nohole read stored = record {
         tables = tables_store (omega arith) A.tables
-            (read ∙ B.shift_at j (omega (arith, early, noholes_le w, B.word)) ∙ shift_nohole w j early ∙ ap (kmin w) here ∙ sym (kmp_shift_nohole w p is))
+            (read ∙ B.shift_at j (omega (arith, before_holes, noholes_le w, B.word)) ∙ shift_nohole w j before_holes ∙ ap (kmin w) here
+            ∙ sym (kmp_shift_nohole w p is))
             (stored ∙ A.number);
         number = rw (add-one p) (omega (arith, A.number, below_nohole w p is));
       }
 
     -- It is a hole.
-    module _ (no : r ≡ false) where
+    module _ (no : j < d → get_or order j 0 ≡ p → ⊥) where
       not : nohole w p ≡ false
       not = ⊎_elim
           (λ (e : nohole w p ≡ true).
           let at_rank : rank w p ≡ j = rank_nohole w p e ∙ sym A.number in
-          absurd (S.no no (omega (arith, at_rank, nohole_early w p e, B.noholes))
+          absurd (no (omega (arith, at_rank, nohole_early w p e, B.noholes))
           (B.place_at j (omega (arith, at_rank, rank_inside w p (omega (arith, B.word)), B.word))
           ∙ ap (place w) (sym at_rank) ∙ place_rank w p (omega (arith, B.word)))))
           (λ e. e)
@@ -198,6 +199,10 @@ module _ (letters shifts belows : List ℕ) (m : ℕ) (sizes : (1 ≤ m) × (m �
     -- The comparisons at noholes, as the code has them.
     pub noholes_made : q + get_or belows i 0 ≡ q + below (take m letters) i
     noholes_made = omega (arith, K.below_at i (rank_upto F.scans))
+
+    -- Neither what is left nor the comparisons at noholes are more than the cap.
+    pub within_cap : (left ≤ cap) × (i ≤ m) × (q + get_or belows i 0 ≤ cap)
+    within_cap = (F.within, omega (arith, rank_upto F.scans, word), omega (arith, noholes_made, column_upto F.scans))
 
     columns : Split (take m letters) F.scans.made (q + get_or belows i 0) (cap - left - (q + get_or belows i 0))
     columns = by_noholes (take m letters) F.scans.made F.scans.count (F.scans.column ∙ sym noholes_made)

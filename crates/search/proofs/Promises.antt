@@ -12,12 +12,15 @@ use Rattle.pattern.specs.declared.Pattern.{Pattern}
 use Rattle.pattern.proofs.Letters.{length_text}
 use Rattle.checked.specs.Check.{IsPrepared}
 use Rattle.checked.proofs.Reading.{fields_of}
+use Rattle.std.specs.Prelude.{Result, IfOk}
 use Rattle.rules.specs.Rules.{End, Search}
 use Rattle.rules.specs.Colussi.{colussi}
 use Rattle.rules.specs.Kmp.{kmp}
 use Rattle.rules.specs.Occurs.{Occurs, CoversNo}
 use Rattle.rules.specs.Promise.{CutOff}
 use Rattle.rules.specs.Report.{report_of, filled, Columns}
+use Rattle.refusal.specs.declared.Refusal.{Refusal}
+use Rattle.rules.specs.declared.Report.{Report}
 use Rattle.rules.specs.declared.Ending.{Ending}
 use Rattle.rules.specs.declared.Ending.TheVariants.{Done, Spent, Full}
 use Rattle.rules.proofs.Columns.{columns_sum}
@@ -27,8 +30,7 @@ use Rattle.rules.proofs.ColussiCeiling.{colussi_ceiling}
 use Rattle.rules.proofs.KmpMethod.{kmp_finds, kmp_ceiling}
 use Rattle.rules.proofs.SamePositions.{same_positions}
 use Rattle.search.specs.Answer.{answer_by, list_by, plain_answer_by, plain_list_by}
-use Rattle.search.specs.Promise.{IfRan, Located, ListedBy, UnderCeiling, UnderKmpCeiling, AsColussi, NoZeroCovered}
-use Rattle.search.specs.declared.SearchAnswer.{SearchAnswer}
+use Rattle.search.specs.Promise.{Located, ListedBy, UnderCeiling, UnderKmpCeiling, AsColussi, NoZeroCovered}
 use Rattle.search.proofs.Classes.{occurs_by, occurs_through, covers_no_zero}
 use Rattle.search.proofs.Answers.{Answers, plain, promised}
 
@@ -113,77 +115,65 @@ module _ (p : Pattern) (t : List ℕ) (cap : ℕ) (lent : List ℕ) where
       }
 
   -- What `colussi` ensures of its answer and its list.
-  pub colussi_promises : {r : SearchAnswer} {after : List ℕ} → Answers colussi p t cap lent r after
-      → (r ≡ answer_by colussi p t cap (length lent)) × ((after ≡ list_by colussi p t cap lent)
-      × (IfRan (Located colussi (word_of p) (text_of p t) cap after) r × (IfRan (ListedBy p.classes (own_bytes p) t after) r
-      × (IfRan (Columns (word_of p) (colussi (word_of p) (text_of p t) cap (length lent)).last.made) r
-      × (IfRan (UnderCeiling (length (word_of p)) (length t)) r × (IfRan (NoZeroCovered (length (word_of p)) t after) r
-      × (p.classes ≡ identity → (r ≡ plain_answer_by colussi p t cap (length lent)) × (after ≡ plain_list_by colussi p t cap lent))))))))
-  colussi_promises A = (
-    A.answer,
-    (
-      A.list,
-      (
-        promised colussi p t cap lent (Located colussi (word_of p) (text_of p t) cap)
-            (λ I. located colussi (word_of p) (text_of p t) cap lent (colussi_finds (word_of p) (text_of p t) (some_letter p t I) cap (length lent))) A,
-        (
-          promised colussi p t cap lent (ListedBy p.classes (own_bytes p) t)
-              (λ I. listed_by colussi (colussi_finds (word_of p) (text_of p t) (some_letter p t I) cap (length lent))) A,
-          (
-            promised colussi p t cap lent (λ after r. Columns (word_of p) (colussi (word_of p) (text_of p t) cap (length lent)).last.made r)
-                (λ I. in_columns (word_of p) (colussi (word_of p) (text_of p t) cap (length lent))) A,
-            (
-              promised colussi p t cap lent (λ after r. UnderCeiling (length (word_of p)) (length t) r)
-                  (λ I. unfold report_of in rw (length_text p t) at (colussi_ceiling (word_of p) (text_of p t) (some_letter p t I) cap (length lent))) A,
-              (
-                promised colussi p t cap lent (NoZeroCovered (length (word_of p)) t)
-                    (λ I. no_zero_covered colussi I (colussi_finds (word_of p) (text_of p t) (some_letter p t I) cap (length lent))) A,
-                λ e. plain colussi p t cap lent e A,
-              ),
-            ),
-          ),
-        ),
-      ),
-    ),
-  )
+  pub record ColussiPromises (r : Result Report Refusal) (after : List ℕ) : Type 0 where
+    pub answer : r ≡ answer_by colussi p t cap (length lent)
+    pub list : after ≡ list_by colussi p t cap lent
+    pub accurate : IfOk r (Located colussi (word_of p) (text_of p t) cap after)
+    pub classed : IfOk r (ListedBy p.classes (own_bytes p) t after)
+    pub columns : IfOk r (Columns (word_of p) (colussi (word_of p) (text_of p t) cap (length lent)).last.made)
+    pub ceiling : IfOk r (UnderCeiling (length (word_of p)) (length t))
+    pub zeros : IfOk r (NoZeroCovered (length (word_of p)) t after)
+    pub plain : p.classes ≡ identity → (r ≡ plain_answer_by colussi p t cap (length lent)) × (after ≡ plain_list_by colussi p t cap lent)
 
-  -- What `kmp` ensures of them.
-  pub kmp_promises : {r : SearchAnswer} {after : List ℕ} → Answers kmp p t cap lent r after
-      → (r ≡ answer_by kmp p t cap (length lent)) × ((after ≡ list_by kmp p t cap lent)
-      × (IfRan (Located kmp (word_of p) (text_of p t) cap after) r × (IfRan (ListedBy p.classes (own_bytes p) t after) r
-      × (IfRan (Columns (word_of p) (kmp (word_of p) (text_of p t) cap (length lent)).last.made) r
-      × (IfRan (UnderKmpCeiling (length (word_of p)) (length t)) r
-      × (IfRan (AsColussi (word_of p) (text_of p t) after) r × (IfRan (NoZeroCovered (length (word_of p)) t after) r
-      × (p.classes ≡ identity → (r ≡ plain_answer_by kmp p t cap (length lent)) × (after ≡ plain_list_by kmp p t cap lent)))))))))
-  kmp_promises A = (
-    A.answer,
-    (
-      A.list,
-      (
-        promised kmp p t cap lent (Located kmp (word_of p) (text_of p t) cap)
-            (λ I. located kmp (word_of p) (text_of p t) cap lent (kmp_finds (word_of p) (text_of p t) (some_letter p t I) cap (length lent))) A,
-        (
-          promised kmp p t cap lent (ListedBy p.classes (own_bytes p) t)
-              (λ I. listed_by kmp (kmp_finds (word_of p) (text_of p t) (some_letter p t I) cap (length lent))) A,
-          (
-            promised kmp p t cap lent (λ after r. Columns (word_of p) (kmp (word_of p) (text_of p t) cap (length lent)).last.made r)
-                (λ I. in_columns (word_of p) (kmp (word_of p) (text_of p t) cap (length lent))) A,
-            (
-              promised kmp p t cap lent (λ after r. UnderKmpCeiling (length (word_of p)) (length t) r)
-                  (λ I. unfold report_of in rw (length_text p t) at (kmp_ceiling (word_of p) (text_of p t) (some_letter p t I) cap (length lent))) A,
-              (
-                promised kmp p t cap lent (AsColussi (word_of p) (text_of p t))
-                    (λ I done cap' size' done'. begins_with_found (word_of p) (kmp (word_of p) (text_of p t) cap (length lent)) lent
-                    ∙ sym (same_positions (word_of p) (text_of p t) (some_letter p t I) cap' size' cap (length lent) done' (unfold report_of in done))) A,
-                (
-                  promised kmp p t cap lent (NoZeroCovered (length (word_of p)) t)
-                      (λ I. no_zero_covered kmp I (kmp_finds (word_of p) (text_of p t) (some_letter p t I) cap (length lent))) A,
-                  λ e. plain kmp p t cap lent e A,
-                ),
-              ),
-            ),
-          ),
-        ),
-      ),
-    ),
-  )
+  pub colussi_promises : {r : Result Report Refusal} {after : List ℕ} → Answers colussi p t cap lent r after → ColussiPromises r after
+  colussi_promises {r} {after} A =
+      let letter = some_letter p t in
+      let finds : (I : IsAdmitted p (length t)) → Finds colussi (word_of p) (text_of p t) cap (length lent) =
+      λ I. colussi_finds (word_of p) (text_of p t) (letter I) cap (length lent) in
+      record {
+        answer = A.answer;
+        list = A.list;
+        accurate = promised colussi p t cap lent (Located colussi (word_of p) (text_of p t) cap)
+            (λ I. located colussi (word_of p) (text_of p t) cap lent (finds I)) A;
+        classed = promised colussi p t cap lent (ListedBy p.classes (own_bytes p) t) (λ I. listed_by colussi (finds I)) A;
+        columns = promised colussi p t cap lent (λ after r. Columns (word_of p) (colussi (word_of p) (text_of p t) cap (length lent)).last.made r)
+            (λ I. in_columns (word_of p) (colussi (word_of p) (text_of p t) cap (length lent))) A;
+        ceiling = promised colussi p t cap lent (λ after r. UnderCeiling (length (word_of p)) (length t) r)
+            (λ I. unfold report_of in rw (length_text p t) at (colussi_ceiling (word_of p) (text_of p t) (letter I) cap (length lent))) A;
+        zeros = promised colussi p t cap lent (NoZeroCovered (length (word_of p)) t) (λ I. no_zero_covered colussi I (finds I)) A;
+        plain = λ e. plain colussi p t cap lent e A;
+      }
+
+  -- What `kmp` ensures of its answer and its list.
+  pub record KmpPromises (r : Result Report Refusal) (after : List ℕ) : Type 0 where
+    pub answer : r ≡ answer_by kmp p t cap (length lent)
+    pub list : after ≡ list_by kmp p t cap lent
+    pub accurate : IfOk r (Located kmp (word_of p) (text_of p t) cap after)
+    pub classed : IfOk r (ListedBy p.classes (own_bytes p) t after)
+    pub columns : IfOk r (Columns (word_of p) (kmp (word_of p) (text_of p t) cap (length lent)).last.made)
+    pub ceiling : IfOk r (UnderKmpCeiling (length (word_of p)) (length t))
+    pub same : IfOk r (AsColussi (word_of p) (text_of p t) after)
+    pub zeros : IfOk r (NoZeroCovered (length (word_of p)) t after)
+    pub plain : p.classes ≡ identity → (r ≡ plain_answer_by kmp p t cap (length lent)) × (after ≡ plain_list_by kmp p t cap lent)
+
+  pub kmp_promises : {r : Result Report Refusal} {after : List ℕ} → Answers kmp p t cap lent r after → KmpPromises r after
+  kmp_promises {r} {after} A =
+      let letter = some_letter p t in
+      let finds : (I : IsAdmitted p (length t)) → Finds kmp (word_of p) (text_of p t) cap (length lent) =
+      λ I. kmp_finds (word_of p) (text_of p t) (letter I) cap (length lent) in
+      record {
+        answer = A.answer;
+        list = A.list;
+        accurate = promised kmp p t cap lent (Located kmp (word_of p) (text_of p t) cap)
+            (λ I. located kmp (word_of p) (text_of p t) cap lent (finds I)) A;
+        classed = promised kmp p t cap lent (ListedBy p.classes (own_bytes p) t) (λ I. listed_by kmp (finds I)) A;
+        columns = promised kmp p t cap lent (λ after r. Columns (word_of p) (kmp (word_of p) (text_of p t) cap (length lent)).last.made r)
+            (λ I. in_columns (word_of p) (kmp (word_of p) (text_of p t) cap (length lent))) A;
+        ceiling = promised kmp p t cap lent (λ after r. UnderKmpCeiling (length (word_of p)) (length t) r)
+            (λ I. unfold report_of in rw (length_text p t) at (kmp_ceiling (word_of p) (text_of p t) (letter I) cap (length lent))) A;
+        same = promised kmp p t cap lent (AsColussi (word_of p) (text_of p t))
+            (λ I done cap' size' done'. begins_with_found (word_of p) (kmp (word_of p) (text_of p t) cap (length lent)) lent
+            ∙ sym (same_positions (word_of p) (text_of p t) (letter I) cap' size' cap (length lent) done' (unfold report_of in done))) A;
+        zeros = promised kmp p t cap lent (NoZeroCovered (length (word_of p)) t) (λ I. no_zero_covered kmp I (finds I)) A;
+        plain = λ e. plain kmp p t cap lent e A;
+      }

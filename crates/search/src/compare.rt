@@ -2,26 +2,43 @@
 // counts is made here.
 ghost use Rattle.std.specs.Prelude.{◌≡◌, ◌≤◌, ◌<◌, length};
 ghost use Rattle.words.specs.Tables.{letter};
-ghost use Rattle.classes.specs.Classes.{class_count, through};
+ghost use Rattle.classes.specs.Classes.{through};
+ghost use Rattle.intake.specs.Sizes.{longest_pattern};
 ghost use Rattle.search.specs.Internal.Letters.{LettersOf, Agrees};
 
-use super::entries::wide8;
-use classes::put_letters;
+use classes::{CLASSES, put_letters};
+use pattern::{LONGEST_PATTERN, Pattern};
 
-// The letters of a pattern's first m bytes, put at the start of a list.
-pub fn put_first<'a>(bytes: &'a [u8], classes: &'a [u8], m: usize, letters: &mut [u8])
-    requires { (m ≤ length bytes.now) × (m ≤ length letters.old) × (length classes.now ≡ class_count) }
-    ensures { LettersOf bytes.now classes.now m (length letters.old) letters.new }
+// The letters of a pattern, at the start of the list.
+pub fn letters(pattern: &Pattern) -> [u8; LONGEST_PATTERN]
+    requires { pattern.now.len ≤ longest_pattern }
+    ensures { LettersOf pattern.now.bytes pattern.now.classes pattern.now.len longest_pattern result }
 {
-    put_letters(&bytes[..m], classes, letters)
+    let mut letters = [0u8; LONGEST_PATTERN];
+    put_letters(
+        &pattern.bytes[..pattern.len],
+        &pattern.classes,
+        &mut letters,
+    );
+    letters
 }
 
-// Whether x is the letter at a place of a text.
-pub fn agree<'a>(x: u8, classes: &'a [u8], text: &'a [u8], place: usize) -> bool
-    requires { (length classes.now ≡ class_count) × (place < length text.now) }
-    ensures { Agrees x (letter (through classes.now text.now) place) result }
-{
-    let byte = text[place];
-    let class = classes[wide8(byte)];
-    x == class
+// A text, and the classes that its bytes are read through.
+#[derive(Clone, Copy)]
+pub struct Text<'a> {
+    pub classes: &'a [u8; CLASSES],
+    pub bytes: &'a [u8],
+}
+
+impl<'a> Text<'a> {
+    // Whether x is the letter at a place.
+    pub fn agrees(self, x: u8, place: usize) -> bool
+        requires { place < length self.bytes.now }
+        ensures { Agrees x (letter (through self.entry.classes.now self.entry.bytes.now) place) result }
+    {
+        let byte = self.bytes[place];
+        let classes = self.classes; // of a known length
+        let class = classes[usize::from(byte)];
+        x == class
+    }
 }

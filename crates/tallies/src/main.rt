@@ -5,14 +5,13 @@
 mod sets;
 
 use ones::{BITS, PLACES, WORDS};
+use sets::Extreme;
 use std::io;
 
 // How many places are asked of a set: 0 to PLACES + 1, and two far past the last.
 const ASKED: usize = PLACES + 4;
 
-const FAR: usize = 512;
-
-const FARTHEST: usize = 18446744073709551615;
+const FAR: [usize; 2] = [512, usize::MAX];
 // An extreme set has all places below one of these, from none to all ..
 const ENDS: [usize; 11] = [0, 1, 63, 64, 65, 127, 128, 129, 192, 255, 256];
 // .. or one of these alone.
@@ -26,12 +25,7 @@ const FACTOR: u64 = 31;
 
 const PRIME: u64 = 1000003;
 
-fn say(rt: &impl Print, words: &[u8], n: u64) -> io::Result<()> {
-    rt.write_all(words)?;
-    print!(rt; "{n}")
-}
-
-#[derive(Clone, Copy)]
+#[derive(Clone, Copy, Default)]
 struct Tally {
     answers: u64,
     checksum: u64,
@@ -39,14 +33,6 @@ struct Tally {
 }
 
 impl Tally {
-    fn none() -> Self {
-        Tally {
-            answers: 0,
-            checksum: 0,
-            differ: 0,
-        }
-    }
-
     fn with(mut self, answer: u64, counted: u64) -> Self {
         self.answers = self.answers.wrapping_add(1);
         self.checksum = (self.checksum % PRIME * FACTOR).wrapping_add(answer) % PRIME;
@@ -60,27 +46,16 @@ impl Tally {
 // The marks below a place, bit by bit.
 fn counted(marks: &[u64; WORDS], p: usize) -> u64 {
     let mut n: u64 = 0;
-    for q in 0..PLACES {
-        if q < p {
-            n = n.wrapping_add(marks[q / BITS] >> (q % BITS) & 1);
-        }
+    for q in 0..p.min(PLACES) {
+        n = n.wrapping_add(marks[q / BITS] >> (q % BITS) & 1);
     }
     n
-}
-
-fn asked(i: usize) -> usize {
-    match i {
-        258 => FAR,
-        259 => FARTHEST,
-        _ => i,
-    }
 }
 
 fn try_set(before: Tally, marks: &[u64; WORDS]) -> Tally {
     let whole = ones::whole_words(marks);
     let mut tally = before;
-    for i in 0..ASKED {
-        let p = asked(i);
+    for p in (0..PLACES + 2).chain(FAR) {
         let answer = ones::ones_below(marks, &whole, p) as u64;
         tally = tally.with(answer, counted(marks, p));
     }
@@ -88,25 +63,22 @@ fn try_set(before: Tally, marks: &[u64; WORDS]) -> Tally {
 }
 
 // A set's kind and place, how many marks it has, and the checksum of its answers alone.
-fn show_set(rt: &impl Print, kind: &[u8], place: usize, marks: &[u64; WORDS]) -> io::Result<()> {
+fn show_set(rt: &impl Print, kind: Extreme, place: usize, marks: &[u64; WORDS]) -> io::Result<()> {
+    let name = kind.name();
     let all = ones::ones_below(marks, &ones::whole_words(marks), PLACES);
-    let tally = try_set(Tally::none(), marks);
-    say(rt, kind, place as u64)?;
-    say(rt, b": ", all as u64)?;
-    say(rt, b", checksum ", tally.checksum)?;
-    rt.write_all(b"\n")
+    let checksum = try_set(Tally::default(), marks).checksum;
+    println!(rt; "{name} {place}: {all}, checksum {checksum}")
 }
 
 fn try_extremes(
     rt: &impl Print,
     before: Tally,
-    alone: bool,
-    kind: &[u8],
+    kind: Extreme,
     places: &[usize],
 ) -> io::Result<Tally> {
     let mut tally = before;
     for &place in places {
-        let marks = sets::extreme(alone, place);
+        let marks = kind.marks(place);
         show_set(rt, kind, place, &marks)?;
         tally = try_set(tally, &marks);
     }
@@ -128,12 +100,12 @@ fn try_random(before: Tally) -> Tally {
 }
 
 fn main(rt: HostRuntime) -> io::Result<()> {
-    let below = try_extremes(&rt, Tally::none(), false, b"below ", &ENDS)?;
-    let only = try_extremes(&rt, below, true, b"only ", &ALONE)?;
+    let below = try_extremes(&rt, Tally::default(), Extreme::Below, &ENDS)?;
+    let only = try_extremes(&rt, below, Extreme::Only, &ALONE)?;
     let all = try_random(only);
-    say(&rt, b"sets ", all.answers / ASKED as u64)?;
-    say(&rt, b"\nanswers ", all.answers)?;
-    say(&rt, b"\nchecksum ", all.checksum)?;
-    say(&rt, b"\n", all.differ)?;
-    rt.write_all(b" differ\n")
+    let sets = all.answers / ASKED as u64;
+    println!(rt; "sets {sets}")?;
+    println!(rt; "answers {}", all.answers)?;
+    println!(rt; "checksum {}", all.checksum)?;
+    println!(rt; "{} differ", all.differ)
 }

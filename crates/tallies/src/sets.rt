@@ -1,16 +1,34 @@
 // Sets of marks: extreme ones, and random ones by a formula, so that an oracle can draw them again.
 use ones::{BITS, PLACES, WORDS};
 
-// The place alone, or all below it.
-pub fn extreme(alone: bool, place: usize) -> [u64; WORDS] {
-    let mut marks = [0u64; WORDS];
-    for q in 0..PLACES {
-        let marked = if alone { q == place } else { q < place };
-        if marked {
-            marks[q / BITS] |= 1 << (q % BITS);
+// What an extreme set marks: all places below one, or that place only.
+#[derive(Clone, Copy)]
+pub enum Extreme {
+    Below,
+    Only,
+}
+
+impl Extreme {
+    pub fn marks(self, place: usize) -> [u64; WORDS] {
+        let mut marks = [0u64; WORDS];
+        for q in 0..PLACES {
+            let marked = match self {
+                Extreme::Below => q < place,
+                Extreme::Only => q == place,
+            };
+            if marked {
+                marks[q / BITS] |= 1 << (q % BITS);
+            }
+        }
+        marks
+    }
+
+    pub fn name(self) -> &'static str {
+        match self {
+            Extreme::Below => "below",
+            Extreme::Only => "only",
         }
     }
-    marks
 }
 
 // Marsaglia's xorshift.
@@ -30,5 +48,5 @@ pub fn draw(x: u64) -> [u64; WORDS] {
 
 // The marks that both have.
 pub fn common(a: &[u64; WORDS], b: &[u64; WORDS]) -> [u64; WORDS] {
-    [a[0] & b[0], a[1] & b[1], a[2] & b[2], a[3] & b[3]]
+    std::array::from_fn(|i| a[i] & b[i])
 }

@@ -1,13 +1,8 @@
 -- What the scanning functions of the search by Knuth, Morris and Pratt promise.
-use Rattle.std.specs.Prelude.{ℕ, ◌≤◌, ◌<◌, ◌≡◌, Bool, true, false, List, length, get_or}
+use Rattle.std.specs.Prelude.{ℕ, ◌≤◌, ◌<◌, ◌≡◌, List, length, get_or}
 use Rattle.words.specs.Tables.{below, noholes, place, shift}
 use Rattle.pattern.specs.Sizes.{ranks}
 use Rattle.rules.specs.Kmp.{kmp_shift}
-
--- A test tells whether rank j is below d and p its place.
-pub record StandsAt (order : List ℕ) (d j p : ℕ) (r : Bool) : Type 0 where
-  pub yes : r ≡ true → (j < d) × (get_or order j 0 ≡ p)
-  pub no : r ≡ false → j < d → get_or order j 0 ≡ p → ⊥
 
 -- The tables by place: the shift at each matched length, and the noholes less than it.
 pub record KmpTables (w shifts belows : List ℕ) : Type 0 where
