@@ -1,8 +1,8 @@
 // What is asked of a search to the end: the naive search's positions, and a count under the ceiling.
 ghost use Rattle.std.specs.Prelude.{◌<◌, ◌≤◌, length};
 
-use super::Run;
 use super::method::Method;
+use search::{Ending, Report};
 
 // The longest text, and a list with an entry to spare.
 pub const TEXT: usize = 400;
@@ -10,11 +10,6 @@ pub const TEXT: usize = 400;
 pub const LIST: usize = TEXT + 1;
 // What a list holds before a search: no position of a text here.
 pub const UNWRITTEN: u32 = 4294967295;
-
-// In place of the window of a spent cap, which is less: the search is done, and neither done nor spent.
-pub const DONE: u64 = LIST as u64;
-
-pub const NEITHER: u64 = DONE + 1;
 
 // The naive search: whether a list holds the occurrences from its start on, and is unchanged after them.
 fn lists(positions: &[u32; LIST], written: usize, bytes: &[u8], text: &[u8]) -> bool
@@ -34,7 +29,7 @@ fn lists(positions: &[u32; LIST], written: usize, bytes: &[u8], text: &[u8]) -> 
 
 pub fn is_right(
     method: Method,
-    run: Run,
+    report: Report,
     positions: &[u32; LIST],
     bytes: &[u8],
     text: &[u8],
@@ -42,7 +37,7 @@ pub fn is_right(
     requires first { 0 < length bytes.now }
     requires fits { length text.now ≤ 400 }
 {
-    run.end == DONE
-        && run.count <= method.ceiling(bytes.len(), text.len())
-        && lists(positions, run.written as usize, bytes, text)
+    matches!(report.ending, Ending::Done)
+        && report.count <= method.ceiling(bytes.len(), text.len())
+        && lists(positions, report.written, bytes, text)
 }

@@ -8,12 +8,11 @@ mod method;
 
 ghost use Rattle.std.specs.Prelude.{◌<◌, ◌≤◌, length};
 
-use judge::{DONE, LIST, NEITHER, TEXT, UNWRITTEN};
+use judge::{LIST, TEXT, UNWRITTEN};
 use method::Method;
-use pattern::{LONGEST_PATTERN, Pattern};
-use preparation::SCRATCH;
+use preparation::LONGEST_PATTERN;
 use rules::NO_CAP;
-use search::{Ending, SearchAnswer};
+use search::{Ending, Report};
 use std::{fmt, io};
 
 const CASES: u64 = 4000;
@@ -29,11 +28,11 @@ struct Tally {
 
 impl Tally {
     // One search more.
-    fn count(&mut self, run: Run) {
+    fn count(&mut self, report: Report) {
         self.searches = self.searches.wrapping_add(1);
-        self.places = self.places.wrapping_add(run.written);
-        self.comparisons = self.comparisons.wrapping_add(run.count);
-        self.noholes = self.noholes.wrapping_add(run.noholes);
+        self.places = self.places.wrapping_add(report.written as u64);
+        self.comparisons = self.comparisons.wrapping_add(report.count);
+        self.noholes = self.noholes.wrapping_add(report.noholes);
     }
 }
 
@@ -47,64 +46,17 @@ impl fmt::Display for Tally {
     }
 }
 
-// The pattern beside a refusal is all zero, and the searches refuse it.
-fn prepared(bytes: &[u8]) -> Pattern {
-    let mut scratch = [0u16; SCRATCH];
-    let answer = preparation::prepare(bytes, &classes::identity_classes(), &mut scratch);
-    answer.pattern
-}
-
-// An answer in numbers alone, which cost less to prove than its enums: the window of a spent cap, or DONE or NEITHER.
-#[derive(Clone, Copy)]
-struct Run {
-    end: u64,
-    count: u64,
-    noholes: u64,
-    written: u64,
-}
-
-fn run_of(answer: SearchAnswer) -> Run {
-    let SearchAnswer::Ran(report) = answer else {
-        return Run {
-            end: NEITHER,
-            count: 0,
-            noholes: 0,
-            written: 0,
-        };
-    };
-    let ending = report.ending;
-    let end = match ending {
-        Ending::Done => DONE,
-        Ending::Spent(b) => b as u64,
-        Ending::Full(_) => NEITHER,
-    };
-    Run {
-        end,
-        count: report.count,
-        noholes: report.noholes,
-        written: report.written as u64,
-    }
-}
-
-fn run_by(method: Method, bytes: &[u8], text: &[u8], cap: u64, positions: &mut [u32]) -> Run {
-    run_of(method.search(prepared(bytes), text, cap, positions))
-}
-
-// A search to the end, if it is right.
-fn try_search(method: Method, bytes: &[u8], text: &[u8]) -> Option<Run>
+// The report of a search to the end, if it is right.
+fn try_search(method: Method, bytes: &[u8], text: &[u8]) -> Option<Report>
     requires first { 0 < length bytes.now }
     requires fits { length text.now ≤ 400 }
 {
     let mut positions = [UNWRITTEN; LIST];
-    let run = run_by(method, bytes, text, NO_CAP, &mut positions);
-    if judge::is_right(method, run, &positions, bytes, text) {
-        Some(run)
-    } else {
-        None
-    }
+    let report = method.search(bytes, text, NO_CAP, &mut positions).ok()?;
+    judge::is_right(method, report, &positions, bytes, text).then_some(report)
 }
 
-fn try_case(method: Method, case: u64) -> Option<Run> {
+fn try_case(method: Method, case: u64) -> Option<Report> {
     let stream = draw::number(case, 0);
     let mut bytes = [0u8; LONGEST_PATTERN];
     let m = draw::pattern(stream, &mut bytes);
@@ -117,8 +69,8 @@ fn try_case(method: Method, case: u64) -> Option<Run> {
 fn run_cases(rt: &impl Print, method: Method) -> io::Result<u64> {
     let mut tally = Tally::default();
     for case in 0..CASES {
-        if let Some(run) = try_case(method, case) {
-            tally.count(run);
+        if let Some(report) = try_case(method, case) {
+            tally.count(report);
         }
     }
     println!(rt; "{method}: {tally}")?;
@@ -129,14 +81,13 @@ fn run_cases(rt: &impl Print, method: Method) -> io::Result<u64> {
 fn show_record(rt: &impl Print) -> io::Result<()> {
     let text = b"aba";
     let mut positions = [UNWRITTEN; LIST];
-    let Run {
-        end,
-        count,
-        written,
-        ..
-    } = run_by(Method::Colussi, text, text, 0, &mut positions);
-    if end < DONE {
-        println!(rt; "aba in aba, cap 0: spent at {end}, count {count}, places {written}")?;
+    if let Ok(report) = Method::Colussi.search(text, text, 0, &mut positions)
+        && let Ending::Spent(window) = report.ending
+    {
+        println!(rt;
+            "aba in aba, cap 0: spent at {window}, count {}, places {}",
+            report.count, report.written
+        )?;
     }
     Ok(())
 }

@@ -1,8 +1,8 @@
 // The two searches that are tried.
 ghost use Rattle.std.specs.Prelude.{◌≤◌};
 
-use pattern::Pattern;
-use search::SearchAnswer;
+use refusal::Refusal;
+use search::Report;
 use std::fmt;
 
 #[derive(Clone, Copy)]
@@ -12,13 +12,15 @@ pub enum Method {
 }
 
 impl Method {
+    // The search for the bytes of a pattern, once it is prepared.
     pub fn search(
         self,
-        pattern: Pattern,
+        bytes: &[u8],
         text: &[u8],
         cap: u64,
         positions: &mut [u32],
-    ) -> SearchAnswer {
+    ) -> Result<Report, Refusal> {
+        let pattern = preparation::prepare_alone(bytes, &classes::identity_classes())?.pattern;
         match self {
             Method::Colussi => search::colussi(pattern, text, cap, positions),
             Method::Kmp => search::kmp(pattern, text, cap, positions),
