@@ -1,4 +1,4 @@
--- The printed lines: where they end in a buffer, the positions' lines one by one, and those of a report. Assumes nothing.
+-- The printed lines: the positions' lines one by one, and those of a report. Assumes nothing.
 use Prim.Native.Nat.{ℕ, ◌+◌, ◌<◌}
 use mathlib.Core.Path.{◌≡◌, refl, sym, ap, ◌∙◌}
 use mathlib.Core.List.{List, [], ◌∷◌, ◌++◌, append_assoc, append-nil}

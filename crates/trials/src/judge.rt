@@ -9,7 +9,7 @@ pub const TEXT: usize = 400;
 
 pub const LIST: usize = TEXT + 1;
 // What a list holds before a search: no position of a text here.
-pub const UNWRITTEN: u32 = 4294967295;
+pub const UNWRITTEN: u32 = u32::MAX;
 
 // The naive search: whether a list holds the occurrences from its start on, and is unchanged after them.
 fn lists(positions: &[u32; LIST], written: usize, bytes: &[u8], text: &[u8]) -> bool
