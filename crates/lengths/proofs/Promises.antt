@@ -87,7 +87,8 @@ refused_is (Ok tt) w t size false e is = rw e (cc)
 refused_is (Err first) w t size passes e is = cc
 
 -- and who passes all gets the count.
-counted_is : (a : Tested) (w t : List ℕ) (size : ℕ) → also_judged a (leb (length t) size) ShortLengths ≡ passed → answered a w t size ≡ Ok (comparisons w t)
+counted_is : (a : Tested) (w t : List ℕ) (size : ℕ) → also_judged a (leb (length t) size) ShortLengths ≡ passed
+    → answered a w t size ≡ Ok (comparisons w t)
 unfolding answered
 counted_is a w t size e = let h = passes_all a (leb (length t) size) ShortLengths e in rw (h.0, h.1, answered) refl
 
@@ -111,7 +112,8 @@ module _ (p : Pattern) (t lent : List ℕ) where
       let h = passes_all (admitted p (length t)) (leb (length t) (length lent)) ShortLengths e in
       (admitted_is p (length t) h.0, leb-true _ _ h.1)
 
-  answers : {r : Result ℕ Refusal} {after : List ℕ} → answer_of p t (length lent) ≡ r → listed r (word_of p) (text_of p t) lent ≡ after → Answers r after
+  answers : {r : Result ℕ Refusal} {after : List ℕ} → answer_of p t (length lent) ≡ r → listed r (word_of p) (text_of p t) lent ≡ after
+      → Answers r after
   unfolding list_of
   answers e f = record { answer = sym e; list = sym f ∙ rw (e, list_of) refl }
 
@@ -130,7 +132,8 @@ module _ (p : Pattern) (t lent : List ℕ) where
   -- ---- The promises
 
   -- What holds of the scans, and of every refusal, holds of the answer.
-  promised : (P : List ℕ → ℕ → Type 0) → (IsAdmitted p (length t) → P (lengths_in (word_of p) (text_of p t) lent) (comparisons (word_of p) (text_of p t)))
+  promised : (P : List ℕ → ℕ → Type 0)
+      → (IsAdmitted p (length t) → P (lengths_in (word_of p) (text_of p t) lent) (comparisons (word_of p) (text_of p t)))
       → {r : Result ℕ Refusal} {after : List ℕ} → Answers r after → IfOk r (P after)
   promised P holds A = rw (A.answer, A.list) (at tested refl)
     where

@@ -19,18 +19,6 @@ use Rattle.lengths.specs.Internal.Steps.{Tables, Passes, Begins, Extends, Leaves
 use Rattle.lengths.specs.Internal.Scan.{Right, Scans}
 use Rattle.lengths.proofs.Writing.{right_start, right_more, right_all}
 
--- Neither the window nor the matched length falls where a scan begins.
-pub begins_on : (t : List ℕ) (x : ℕ) {before after : List ℕ} {b i b' i' : ℕ} → Begins t x before after b i b' i' → (b ≤ b') × (i ≤ i')
-begins_on t x (inl h) = (omega (arith, h.1), omega (arith, h.2))
-begins_on t x (inr (none, P, h)) = (P.from, omega arith)
-
--- And they stay within the pattern and the text.
-pub begins_within : (t : List ℕ) (x m : ℕ) {before after : List ℕ} {b i b' i' : ℕ} → 1 ≤ m → i ≤ m → b + i ≤ length t
-    → Begins t x before after b i b' i' → (i' ≤ m) × (b' + i' ≤ length t) × (length after ≡ length before)
-begins_within t x m some upto inside (inl h) = (omega (arith, h.2), omega (arith, h.1, h.2), ap length h.3)
-begins_within t x m some upto inside (inr (none, P, inl h)) = (omega (arith, h.1), omega (arith, h.0, h.1), P.zeros.size)
-begins_within t x m some upto inside (inr (none, P, inr h)) = (omega (arith, h.1), omega (arith, h.0, h.1), P.zeros.size)
-
 -- No entry of the table is below its k.
 pub from_k : {w table : List ℕ} → Tables w table → (i : ℕ) → i ≤ length w → (k : ℕ) → k < suc i → k ≤ min (get_or table k 0) i
 from_k {w} T i l k h = rw (T.known k (omega arith)) (omega (arith, (hmax_from_zero w k (omega arith)).from))

@@ -30,14 +30,17 @@ module _ (p : Pattern) (prepared : IsPrepared p) (lent : List ℕ) {letters : Li
     (put : letters ≡ letters_in (own_bytes p) p.classes lent) where
   -- The letters, as they were put.
   read : (length letters ≡ length lent) × (take p.len letters ≡ word_of p)
-  read = let both = first_letters p.bytes p.classes lent p.len (omega (arith, (F p prepared).short, (F p prepared).length_bytes)) room (F p prepared).usable.size put in
+  read =
+      let fields = F p prepared in
+      let both = first_letters p.bytes p.classes lent p.len (omega (arith, fields.short, fields.length_bytes)) room fields.usable.size put in
       (both.0, both.1 ∙ sym (word_through p))
 
   pub letters_are : take p.len letters ≡ word_of p
   letters_are = read.1
 
   -- The tables, as they were filled for them.
-  pub lent_tables : {order : List ℕ} (before : List ℕ) {shifts among : List ℕ} → Arrangement p.len order → p.len < length before → p.len < length among
+  pub lent_tables : {order : List ℕ} (before : List ℕ) {shifts among : List ℕ} → Arrangement p.len order → p.len < length before
+      → p.len < length among
       → shifts ≡ shifts_after (take p.len letters) order before → MarkedAmong order p.marks among (length order)
       → LentTables (take p.len letters) order shifts among
   lent_tables {order} before {shifts} {among} A wide free filled counted =

@@ -83,7 +83,8 @@ module _ (order : List ℕ) (p : Pattern) (t : List ℕ) (cap : ℕ) (lent : Lis
   promises {r} {after} A = record {
     answer = A.answer;
     list = A.list;
-    accurate = promise (Located (custom order) (word_of p) (text_of p t) cap) (λ I. located (custom order) (word_of p) (text_of p t) cap lent (finds I));
+    accurate = promise (Located (custom order) (word_of p) (text_of p t) cap)
+        (λ I. located (custom order) (word_of p) (text_of p t) cap lent (finds I));
     classed = promise (ListedBy p.classes (own_bytes p) t) (λ I. listed_by p t cap lent (custom order) (finds I));
     columns = promise (λ after r. Columns (word_of p) asked.last.made r) (λ I. in_columns (word_of p) asked);
     same = promise (AsColussi (word_of p) (text_of p t)) as_colussi;

@@ -1,13 +1,13 @@
 -- The scan in a custom order, window by window, as a search by the rules. Assumes nothing.
 use Prim.Native.Nat.{ℕ, zero, suc, ◌+◌, ◌-◌, ◌≤◌, ◌<◌, min}
-use mathlib.Core.Path.{◌≡◌, refl, sym, ap, ◌∙◌}
+use mathlib.Core.Path.{◌≡◌, refl, ap, ◌∙◌}
 use mathlib.Core.Bool.{true}
 use mathlib.Core.Logic.{inl}
 use mathlib.Core.List.{List}
 use native.Mathlib.Numerals.{add-one}
 use native.Mathlib.Omega.{arith}
 use lib.ListN.{length, get_or, set}
-use borrow.Author.Tests.{eq-eqb, ne_eqb, eqb-true}
+use borrow.Author.Tests.{eq-eqb, ne_eqb, true-eqb}
 use lib.Dec.{eqb}
 use Rattle.words.specs.Tables.{letter, nohole}
 use Rattle.classes.proofs.Through.{length_through}
@@ -100,7 +100,7 @@ module _ {w order shifts among : List ℕ} (T : LentTables w order shifts among)
     module _ (met : true ≡ eqb (letter w (get_or order 0 0)) (letter text (b + get_or order 0 0))) {end r : ℕ} (is : end ≡ min left (length w))
         (N : Reaches w order text b end r) where
       agreed : (j : ℕ) → j < r → Agrees j
-      agreed zero l = eqb-true _ _ (sym met)
+      agreed zero l = true-eqb _ _ met
       agreed (suc j) l = N.same (suc j) l (omega arith)
 
       -- The window is left with rank r.

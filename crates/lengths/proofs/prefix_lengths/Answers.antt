@@ -5,7 +5,8 @@ use Rattle.lengths.proofs.prefix_lengths.Goals as goal
 
 pub scan_for-requires : goal.scan_for-requires
 scan_for-requires c =
-    let I = tested_is c.args.pattern _ _ (at_the_tests c.args.pattern _ _ c.admit.ensures.answer c.is_prepared.ensures.test c.in_ok-also.ensures.answer) in
+    let I = tested_is c.args.pattern _ _
+    (at_the_tests c.args.pattern _ _ c.admit.ensures.answer c.is_prepared.ensures.test c.in_ok-also.ensures.answer) in
     record { admitted = I.0; room = I.1 }
 
 pub returns : goal.returns

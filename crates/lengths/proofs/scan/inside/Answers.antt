@@ -22,7 +22,9 @@ loop-b-preserved-then-r-first c =
     let S = scans_begun _ _ _ T.some c.loop-b.invariant.scans c.begin-window.ensures in
     record {
       scans = scans_left _ _ _ T.some T S (omega (arith, length_letters c.args.text)) c.extend-r.ensures (omega (arith, length_letters c.args.text))
-          (left_at_once _ _ _ _ (c.extend-r.result + 1) (omega arith) (omega (arith, S.right.size)) (omega (arith, first_entry T)) (sym c.if-r-first.true)) c.stays-again.ensures;
+          (left_at_once _ _ _ _ (c.extend-r.result + 1) (omega arith) (omega (arith, S.right.size)) (omega (arith, first_entry T))
+          (sym c.if-r-first.true))
+          c.stays-again.ensures;
       few = omega (arith, c.stays-again.ensures.0);
       short = λ l. omega (arith, next_entry T);
     }

@@ -1,5 +1,5 @@
--- However the scan came to stand where the loop begins, it stands at window b and the matched length i, with so many more counted. What is left of the
--- text is less with each window.
+-- However the scan came to stand where the loop begins, it stands at window b and the matched length i, with so many more counted. What is left of
+-- the text is less with each window.
 use Rattle.std.proofs.Common.{List, ℕ, ◌+◌, ◌-◌, ◌≤◌, length}
 use Rattle.lengths.specs.Internal.Steps.{letters_of}
 use Rattle.lengths.specs.Internal.Scan.{Scans}

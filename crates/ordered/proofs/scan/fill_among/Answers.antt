@@ -8,7 +8,8 @@ pub loop-i-init : goal.loop-i-init
 loop-i-init c = none_counted _ _ c.args.among.now (omega arith)
 
 pub loop-i-preserved : goal.loop-i-preserved
-loop-i-preserved c = one_counted _ _ c.loop-i.invariant (omega (arith, length-set c.args.among.now 0 0)) c.is_marked.ensures.answer c.from-count.ensures
+loop-i-preserved c =
+    one_counted _ _ c.loop-i.invariant (omega (arith, length-set c.args.among.now 0 0)) c.is_marked.ensures.answer c.from-count.ensures
 
 pub overflow_add-count : goal.overflow_add-count
 overflow_add-count c = omega (arith, few _ _ (loop-i-preserved c))

@@ -1,6 +1,6 @@
 -- A turn of the loop is a window: the laws of Scanning say what each does.
-use Rattle.std.proofs.Common.{sym, refl, arith, length}
-use borrow.Author.Tests.{eqb-false}
+use Rattle.std.proofs.Common.{refl, arith, length}
+use borrow.Author.Tests.{false-eqb}
 use Rattle.rules.proofs.Scans.{column_upto}
 use Rattle.ordered.proofs.Scanning.{length_letters, in_order_start, shift_on, scan_done, scan_missed, scan_spent, scan_left, left_few, reached_few, scan_cut, scan_full, scan_listed, done_at_once}
 use Rattle.ordered.proofs.scan.scan.Goals as goal
@@ -15,14 +15,15 @@ loop-b-init c = in_order_start _ _ _ _ _
 
 pub returns-then-left-eq0 : goal.returns-then-left-eq0
 returns-then-left-eq0 c =
-    rw c.with_noholes-then-left-eq0.ensures.answer (scan_spent c.requires.lent_tables c.loop-b.invariant (omega (arith, length_letters c.args.text)) c.if-left-eq0.true)
+    rw c.with_noholes-then-left-eq0.ensures.answer
+    (scan_spent c.requires.lent_tables c.loop-b.invariant (omega (arith, length_letters c.args.text)) c.if-left-eq0.true)
 
 -- ---- Rank 0 misses.
 
 pub loop-b-preserved-then-not-agrees : goal.loop-b-preserved-then-not-agrees
 loop-b-preserved-then-not-agrees c =
     scan_missed c.requires.lent_tables c.loop-b.invariant (omega (arith, length_letters c.args.text)) 0 c.requires.lent_tables.some (omega arith)
-    (λ j l. absurd (omega arith)) (eqb-false _ _ (sym c.if-not-agrees.ensures)) refl refl
+    (λ j l. absurd (omega arith)) (false-eqb _ _ c.if-not-agrees.ensures) refl refl
 
 pub overflow_add-q : goal.overflow_add-q
 overflow_add-q c = omega (arith, column_upto (loop-b-preserved-then-not-agrees c).scans)
