@@ -12,14 +12,13 @@ use borrow.Author.Tests.{le-leb}
 use Rattle.std.specs.Prelude.{Result, Ok, Err}
 use Rattle.words.proofs.Cases.{not_both}
 use Rattle.admission.specs.Admitted.{longest_text, judged, admitted, also_judged}
-use Rattle.admission.specs.declared.Admission.{Admission}
-use Rattle.admission.specs.declared.Admission.TheVariants as door
 use Rattle.admission.proofs.Admitting.{refused_before, as_before, passes_all, admitted_is}
 use Rattle.lists.specs.Lists.{in_order}
 use Rattle.lists.proofs.Ascending.{in_order_is}
 use Rattle.pattern.specs.Letters.{word_of, text_of}
 use Rattle.pattern.specs.declared.Pattern.{Pattern}
 use Rattle.pattern.proofs.Letters.{length_text}
+use Rattle.refusal.specs.Tests.{Tested, passed}
 use Rattle.refusal.specs.declared.Refusal.{Refusal}
 use Rattle.refusal.specs.declared.Refusal.TheVariants.{FalseList, ShortList}
 use Rattle.update.specs.Update.{updated}
@@ -28,28 +27,28 @@ use Rattle.correct.specs.Answer.{admitted_list, with_room, answered, listed, ans
 
 -- ---- Of what the door says
 
-module _ {a : Admission} (used : ℕ) where
-  pub answered_in : a ≡ door.Admitted → answered a used ≡ Ok used
+module _ {a : Tested} (used : ℕ) where
+  pub answered_in : a ≡ passed → answered a used ≡ Ok used
   unfolding answered
   answered_in e = rw (e, answered) refl
 
-  pub answered_not : {why : Refusal} → a ≡ door.Refused why → answered a used ≡ Err why
+  pub answered_not : {why : Refusal} → a ≡ Err why → answered a used ≡ Err why
   unfolding answered
   answered_not e = rw (e, answered) refl
 
-module _ {a : Admission} (new lent : List ℕ) where
-  pub listed_in : a ≡ door.Admitted → listed a new lent ≡ new ++ drop (length new) lent
+module _ {a : Tested} (new lent : List ℕ) where
+  pub listed_in : a ≡ passed → listed a new lent ≡ new ++ drop (length new) lent
   unfolding listed
   listed_in e = rw (e, listed) refl
 
-  pub listed_not : {why : Refusal} → a ≡ door.Refused why → listed a new lent ≡ lent
+  pub listed_not : {why : Refusal} → a ≡ Err why → listed a new lent ≡ lent
   unfolding listed
   listed_not e = rw (e, listed) refl
 
 -- Who is not let in is refused.
-refused_by : (a : Admission) → (a ≡ door.Admitted → ⊥) → (why : Refusal) × (a ≡ door.Refused why)
-refused_by door.Admitted none = absurd (none refl)
-refused_by (door.Refused why) none = (why, refl)
+refused_by : (a : Tested) → (a ≡ passed → ⊥) → (why : Refusal) × (a ≡ Err why)
+refused_by (Ok tt) none = absurd (none refl)
+refused_by (Err why) none = (why, refl)
 
 -- ---- Of the tests
 
@@ -64,10 +63,10 @@ module _ (p : Pattern) (t : List ℕ) (place : ℕ) (lent : List ℕ) (used : �
   new_of = updated (word_of p) (text_of p t) place (take used lent)
 
   -- Tests 4, 5 and 19; and all.
-  abbrev pub before20 : Admission
+  abbrev pub before20 : Tested
   before20 = admitted_list p (length t) lent used
 
-  abbrev pub tested : Admission
+  abbrev pub tested : Tested
   tested = with_room before20 new_of lent
 
   -- It is the answer of the door that makes these tests.
@@ -84,15 +83,15 @@ module _ (p : Pattern) (t : List ℕ) (place : ℕ) (lent : List ℕ) (used : �
   as_list = refl
 
   -- A refusal before test 20 is the answer.
-  tested_not : {why : Refusal} → before20 ≡ door.Refused why → tested ≡ door.Refused why
+  tested_not : {why : Refusal} → before20 ≡ Err why → tested ≡ Err why
   unfolding with_room
   tested_not e = refused_before (leb (length new_of) (length lent)) ShortList e
 
-  pub refused : {why : Refusal} → before20 ≡ door.Refused why → Answers (Err why) lent
+  pub refused : {why : Refusal} → before20 ≡ Err why → Answers (Err why) lent
   refused e = answers_as (sym (answered_not _ (tested_not e))) (sym (listed_not new_of lent (tested_not e)))
 
   -- So where nothing is searched since a test is not passed.
-  not_in : (before20 ≡ door.Admitted → ⊥) → {r : Result ℕ Refusal} → r ≡ answered before20 used → Answers r lent
+  not_in : (before20 ≡ passed → ⊥) → {r : Result ℕ Refusal} → r ≡ answered before20 used → Answers r lent
   not_in none e =
       let R = refused_by before20 none in
       rw (e ∙ answered_not used R.1) (refused R.1)
@@ -117,22 +116,22 @@ module _ (p : Pattern) (t : List ℕ) (place : ℕ) (lent : List ℕ) (used : �
     unfolding with_room
     tested_same = as_before before20 ShortList (le-leb (length new_of) (length lent) (omega (arith, new_length)))
 
-    list_same : (a : Admission) → listed a new_of lent ≡ lent
-    list_same door.Admitted = listed_in new_of lent refl ∙ rw (new_length, new_same) (take-append-drop used lent)
-    list_same (door.Refused why) = listed_not new_of lent refl
+    list_same : (a : Tested) → listed a new_of lent ≡ lent
+    list_same (Ok tt) = listed_in new_of lent refl ∙ rw (new_length, new_same) (take-append-drop used lent)
+    list_same (Err why) = listed_not new_of lent refl
 
     place_outside : {r : Result ℕ Refusal} → r ≡ answered before20 used → Answers r lent
     place_outside e = answers_as (e ∙ rw (tested_same, new_length) refl) (sym (list_same tested))
 
   -- These are the cases where nothing is searched: the door answers, by how the list was found.
   pub unsearched : {listing : Bool} → listing ≡ in_order lent used
-      → (longest_text < length t) ⊎ (((length t ≤ longest_text) × (listing ≡ false)) ⊎ ((length t ≤ longest_text) × (listing ≡ true) × (length t ≤ place)))
+      → (longest_text < length t) ⊎ ((listing ≡ false) ⊎ ((listing ≡ true) × (length t ≤ place)))
       → {r : Result ℕ Refusal} → r ≡ answered (also_judged (admitted p (length t)) listing FalseList) used → Answers r lent
   unfolding admitted_list
   unsearched is cases e =
       let f = rw is at e in
       ⊎_elim (λ l. long_text l f)
-      (λ more. ⊎_elim (λ l. false_list (sym is ∙ l.1) f) (λ l. place_outside (in_order_is lent used (sym is ∙ l.1)).0 l.2 f) more)
+      (λ more. ⊎_elim (λ l. false_list (sym is ∙ l) f) (λ l. place_outside (in_order_is lent used (sym is ∙ l.0)).0 l.1 f) more)
       cases
 
   -- ---- In a list that is in order only tests 4, 5 and 20 are left
@@ -143,8 +142,8 @@ module _ (p : Pattern) (t : List ℕ) (place : ℕ) (lent : List ℕ) (used : �
     before_is = as_before (admitted p (length t)) FalseList order
 
     -- Who passes the first two is told by the room.
-    pub updates : admitted p (length t) ≡ door.Admitted → {r : Result ℕ Refusal} {new after : List ℕ} → new ≡ new_of
-        → r ≡ answered (with_room door.Admitted new lent) (length new) → after ≡ listed (with_room door.Admitted new lent) new lent → Answers r after
+    pub updates : admitted p (length t) ≡ passed → {r : Result ℕ Refusal} {new after : List ℕ} → new ≡ new_of
+        → r ≡ answered (with_room passed new lent) (length new) → after ≡ listed (with_room passed new lent) new lent → Answers r after
     updates e is f g =
         let h = before_is ∙ e in
         answers_as (f ∙ rw (h, is) refl) (g ∙ rw (h, is) refl)

@@ -7,12 +7,11 @@ use lib.Dec.{leb}
 use lib.ListN.{length, take, drop}
 use lib.Seq.{paste, length-take-le}
 use borrow.Author.Tests.{le-leb, lt-leb}
-use Rattle.std.specs.Prelude.{Result, Ok, Err}
-use Rattle.admission.specs.declared.Admission.TheVariants as door
+use Rattle.std.specs.Prelude.{Ok, Err}
 use Rattle.admission.proofs.Admitting.{refused_then, lets_in_then}
 use Rattle.lists.specs.Lists.{Splits}
 use Rattle.lists.proofs.Bounds.{splits_order}
-use Rattle.refusal.specs.declared.Refusal.{Refusal}
+use Rattle.refusal.specs.Tests.{passed}
 use Rattle.refusal.specs.declared.Refusal.TheVariants.{ShortList}
 use Rattle.correct.specs.Answer.{with_room}
 use Rattle.correct.specs.Internal.{replaced, Joined}
@@ -22,11 +21,11 @@ use Rattle.correct.proofs.Answers.{answered_in, answered_not, listed_in, listed_
 -- ---- Whether the list has room
 
 module _ (new lent : List ℕ) where
-  no_room : length lent < length new → with_room door.Admitted new lent ≡ door.Refused ShortList
+  no_room : length lent < length new → with_room passed new lent ≡ Err ShortList
   unfolding with_room
   no_room l = refused_then (leb (length new) (length lent)) ShortList refl (lt-leb (length new) (length lent) l)
 
-  room_for : length new ≤ length lent → with_room door.Admitted new lent ≡ door.Admitted
+  room_for : length new ≤ length lent → with_room passed new lent ≡ passed
   unfolding with_room
   room_for l = lets_in_then (leb (length new) (length lent)) ShortList refl (le-leb (length new) (length lent) l)
 

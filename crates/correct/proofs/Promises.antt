@@ -11,8 +11,6 @@ use Rattle.std.specs.Prelude.{Result, Ok, Err, IfOk}
 use Rattle.words.proofs.Cases.{less_or}
 use Rattle.words.proofs.Entries.{past_end}
 use Rattle.admission.specs.Admitted.{admitted, IsAdmitted}
-use Rattle.admission.specs.declared.Admission.{Admission}
-use Rattle.admission.specs.declared.Admission.TheVariants as door
 use Rattle.admission.proofs.Admitting.{passes_all, admitted_is}
 use Rattle.classes.specs.Classes.{identity, class_of, through}
 use Rattle.classes.proofs.Through.{length_through, through_at}
@@ -21,6 +19,7 @@ use Rattle.lists.proofs.Ascending.{in_order_is}
 use Rattle.pattern.specs.Letters.{own_bytes, word_of, text_of}
 use Rattle.pattern.specs.declared.Pattern.{Pattern}
 use Rattle.pattern.proofs.Letters.{text_through, length_word, length_text, word_plain, text_plain}
+use Rattle.refusal.specs.Tests.{Tested, passed}
 use Rattle.refusal.specs.declared.Refusal.{Refusal}
 use Rattle.refusal.specs.declared.Refusal.TheVariants.{FalseList, ShortList}
 use Rattle.search.proofs.Promises.{occurrence_covers_no_zero, bytes_occur, letters_occur}
@@ -49,9 +48,9 @@ module _ (p : Pattern) (t : List ℕ) (place : ℕ) (lent : List ℕ) (used : �
   new = new_of p t place lent used
 
   -- Who is let in has passed tests 4, 5 and 19.
-  passed : tested p t place lent used ≡ door.Admitted → IsAdmitted p (length t) × ((used ≤ length lent) × Ascending (take used lent))
+  lets_in : tested p t place lent used ≡ passed → IsAdmitted p (length t) × ((used ≤ length lent) × Ascending (take used lent))
   unfolding with_room admitted_list
-  passed e =
+  lets_in e =
       let h = (passes_all (before20 p t place lent used) (leb (length new) (length lent)) ShortList e).0 in
       let k = passes_all (admitted p (length t)) (in_order lent used) FalseList h in
       (admitted_is p (length t) k.0, in_order_is lent used k.1)
@@ -62,10 +61,10 @@ module _ (p : Pattern) (t : List ℕ) (place : ℕ) (lent : List ℕ) (used : �
       → {r : Result ℕ Refusal} {after : List ℕ} → Answers p t place lent used r after → IfOk r (λ k. P k after)
   promised P holds A = rw (A.answer ∙ as_answer p t place lent used, A.list ∙ as_list p t place lent used) (at (tested p t place lent used) refl)
     where
-      at : (a : Admission) → tested p t place lent used ≡ a
+      at : (a : Tested) → tested p t place lent used ≡ a
           → IfOk (answered (tested p t place lent used) (length new)) (λ k. P k (listed (tested p t place lent used) new lent))
-      at door.Admitted e = let h = passed e in rw (answered_in (length new) e, listed_in new lent e) (holds h.0 h.1.1)
-      at (door.Refused why) e = rw (answered_not (length new) e) tt
+      at (Ok tt) e = let h = lets_in e in rw (answered_in (length new) e, listed_in new lent e) (holds h.0 h.1.1)
+      at (Err why) e = rw (answered_not (length new) e) tt
 
   -- The list begins with the new entries.
   begins : take (length new) (new ++ drop (length new) lent) ≡ new

@@ -9,8 +9,6 @@ use Rattle.words.proofs.Numbers.{count_le}
 use Rattle.words.proofs.Listing.{length_ascending}
 use Rattle.std.specs.Prelude.{Result, Ok, Err}
 use Rattle.admission.specs.Admitted.{longest_text, admitted}
-use Rattle.admission.specs.declared.Admission.{Admission}
-use Rattle.admission.specs.declared.Admission.TheVariants as door
 use Rattle.admission.proofs.Admitting.{admitted_is}
 use Rattle.checked.specs.Check.{IsPrepared}
 use Rattle.checked.proofs.Reading.{Fields, fields_of}
@@ -20,6 +18,7 @@ use Rattle.lists.specs.Lists.{moved}
 use Rattle.pattern.specs.Letters.{word_of, text_of}
 use Rattle.pattern.specs.declared.Pattern.{Pattern}
 use Rattle.pattern.proofs.Letters.{length_text}
+use Rattle.refusal.specs.Tests.{Tested, passed}
 use Rattle.refusal.specs.declared.Refusal.{Refusal}
 use Rattle.rules.specs.Colussi.{colussi}
 use Rattle.rules.specs.Occurs.{occurs, occurrences_below}
@@ -28,9 +27,7 @@ use Rattle.rules.specs.declared.Ending.{Ending}
 use Rattle.rules.specs.declared.Ending.TheVariants.{Done, Spent, Full}
 use Rattle.rules.specs.declared.Report.{Report}
 use Rattle.search.specs.Answer.{answer_by}
-use Rattle.search.specs.Promise.{IfRan, Located, UnderCeiling}
-use Rattle.search.specs.declared.SearchAnswer.{SearchAnswer}
-use Rattle.search.specs.declared.SearchAnswer.TheVariants.{Ran, Refused}
+use Rattle.search.specs.Promise.{Located, UnderCeiling}
 use Rattle.search.proofs.Answers.{refused, ran_answer}
 use Rattle.update.specs.Update.{covering, updated}
 use Rattle.update.proofs.Parts.{part, length_part}
@@ -59,22 +56,22 @@ text_part p a e t = map_take (class_of p.classes) (e - a) (drop a t) ∙ ap (tak
 -- ---- What its answer tells of the door
 
 module _ (p : Pattern) (t : List ℕ) (cap : ℕ) (lent : List ℕ) where
-  abbrev told : SearchAnswer
+  abbrev told : Result Report Refusal
   told = answer_by colussi p t cap (length lent)
 
-  ran_admitted : {report : Report} → told ≡ Ran report → admitted p (length t) ≡ door.Admitted
+  ran_admitted : {report : Report} → told ≡ Ok report → admitted p (length t) ≡ passed
   ran_admitted {report} e = at (admitted p (length t)) refl
     where
-      at : (a : Admission) → admitted p (length t) ≡ a → admitted p (length t) ≡ door.Admitted
-      at door.Admitted f = f
-      at (door.Refused why) f = let g = (refused colussi p t cap lent f).answer in absurd (let z : ◌≡◌ {A = ℕ} 0 1 = cc in omega arith)
+      at : (a : Tested) → admitted p (length t) ≡ a → admitted p (length t) ≡ passed
+      at (Ok tt) f = f
+      at (Err why) f = let g = (refused colussi p t cap lent f).answer in absurd (let z : ◌≡◌ {A = ℕ} 0 1 = cc in omega arith)
 
-  refused_admitted : {why : Refusal} → told ≡ Refused why → admitted p (length t) ≡ door.Refused why
+  refused_admitted : {why : Refusal} → told ≡ Err why → admitted p (length t) ≡ Err why
   refused_admitted {why} e = at (admitted p (length t)) refl
     where
-      at : (a : Admission) → admitted p (length t) ≡ a → admitted p (length t) ≡ door.Refused why
-      at door.Admitted f = let g = ran_answer colussi p t cap lent f in absurd (let z : ◌≡◌ {A = ℕ} 0 1 = cc in omega arith)
-      at (door.Refused first) f = let g = (refused colussi p t cap lent f).answer in let same : first ≡ why = cc in f ∙ ap door.Refused same
+      at : (a : Tested) → admitted p (length t) ≡ a → admitted p (length t) ≡ Err why
+      at (Ok tt) f = let g = ran_answer colussi p t cap lent f in absurd (let z : ◌≡◌ {A = ℕ} 0 1 = cc in omega arith)
+      at (Err first) f = let g = (refused colussi p t cap lent f).answer in let same : first ≡ why = cc in f ∙ ap Err same
 
 -- ---- What it finds
 
@@ -174,7 +171,7 @@ module _ (p : Pattern) (t : List ℕ) (place : ℕ) (r : Part) (within : place <
 
 -- What is known once the search of the part has run: who is let in, and what was found.
 pub record Found (p : Pattern) (t : List ℕ) (place : ℕ) (r : Part) (report : Report) (list : List ℕ) : Type 0 where
-  pub lets_in : admitted p (length t) ≡ door.Admitted
+  pub lets_in : admitted p (length t) ≡ passed
   pub room : report.written ≤ length list
   pub order : r.start ≤ r.past
   pub small : Small r.start (take report.written list)
@@ -187,28 +184,26 @@ module _ (p : Pattern) (t : List ℕ) (place : ℕ) (r : Part) (within : place <
   same_door : admitted p (length (part r.start r.end t)) ≡ admitted p (length t)
   same_door = door_of_part p _ (length t) (cut_fits p t place r within fits A) fits
 
-  pub found_by : (lent : List ℕ) {x : SearchAnswer} {report : Report} {list : List ℕ} → x ≡ Ran report → length list ≡ longest_pattern
-      → x ≡ answer_by colussi p (part r.start r.end t) no_cap (length lent)
-      → IfRan (Located colussi (word_of p) (text_of p (part r.start r.end t)) no_cap list) x
-      → IfRan (UnderCeiling (length (word_of p)) (length (part r.start r.end t))) x → Found p t place r report list
-  found_by lent {x} {report} {list} ran room e L U =
-      let a = ran_admitted p (part r.start r.end t) no_cap lent (sym e ∙ ran) in
+  pub found_by : (lent : List ℕ) {report : Report} {list : List ℕ} → length list ≡ longest_pattern
+      → Ok report ≡ answer_by colussi p (part r.start r.end t) no_cap (length lent)
+      → Located colussi (word_of p) (text_of p (part r.start r.end t)) no_cap list report
+      → UnderCeiling (length (word_of p)) (length (part r.start r.end t)) report → Found p t place r report list
+  found_by lent {report} {list} room e L U =
+      let a = ran_admitted p (part r.start r.end t) no_cap lent (sym e) in
       let G = (admitted_is p _ a).prepared in
-      let M = rw ran at L in
-      let C = rw ran at U in
       record {
         lets_in = sym same_door ∙ a;
-        room = found_room p t place r within fits A G list room report M C;
-        order = part_order p t place r within fits A G list room report M C;
-        small = found_small p t place r within fits A G list room report M C;
-        is = found_is p t place r within fits A G list room report M C;
-        start = start_is p t place r within fits A G list room report M C;
-        past = past_is p t place r within fits A G list room report M C;
+        room = found_room p t place r within fits A G list room report L U;
+        order = part_order p t place r within fits A G list room report L U;
+        small = found_small p t place r within fits A G list room report L U;
+        is = found_is p t place r within fits A G list room report L U;
+        start = start_is p t place r within fits A G list room report L U;
+        past = past_is p t place r within fits A G list room report L U;
       }
 
-  pub not_by : (lent : List ℕ) {x : SearchAnswer} {why : Refusal} → x ≡ Refused why
-      → x ≡ answer_by colussi p (part r.start r.end t) no_cap (length lent) → admitted p (length t) ≡ door.Refused why
-  not_by lent not e = sym same_door ∙ refused_admitted p (part r.start r.end t) no_cap lent (sym e ∙ not)
+  pub not_by : (lent : List ℕ) {why : Refusal} → Err why ≡ answer_by colussi p (part r.start r.end t) no_cap (length lent)
+      → admitted p (length t) ≡ Err why
+  not_by lent e = sym same_door ∙ refused_admitted p (part r.start r.end t) no_cap lent (sym e)
 
 -- What is found, joined with the entries kept, is the list brought up to date.
 pub joined_is : (p : Pattern) (t : List ℕ) (place : ℕ) (r : Part) (report : Report) (list lent : List ℕ) (used : ℕ) {after : List ℕ} {answer : Result ℕ Refusal}

@@ -1,32 +1,31 @@
 -- Document 02, C-22: what the correction of a list answers, and what it leaves in the list, refusals included.
 use Rattle.std.specs.Prelude.{ℕ, List, ◌++◌, Result, Ok, Err, leb, length, take, drop}
 use Rattle.admission.specs.Admitted.{admitted, also_judged}
-use Rattle.admission.specs.declared.Admission.{Admission}
-use Rattle.admission.specs.declared.Admission.TheVariants as door
 use Rattle.lists.specs.Lists.{in_order}
 use Rattle.pattern.specs.Letters.{own_bytes, word_of, text_of}
 use Rattle.pattern.specs.declared.Pattern.{Pattern}
+use Rattle.refusal.specs.Tests.{Tested}
 use Rattle.refusal.specs.declared.Refusal.{Refusal}
 use Rattle.refusal.specs.declared.Refusal.TheVariants.{FalseList, ShortList}
 use Rattle.update.specs.Update.{updated}
 
 -- Tests 4 and 5, and then 19: the entries in use are not strictly ascending, or more than the list has.
-unfoldable pub admitted_list : Pattern → ℕ → List ℕ → ℕ → Admission
+unfoldable pub admitted_list : Pattern → ℕ → List ℕ → ℕ → Tested
 unfolding admitted also_judged
 admitted_list p n lent used = also_judged (admitted p n) (in_order lent used) FalseList
 
 -- One test more, 20: the new entries are more than the list has.
-unfoldable pub with_room : Admission → List ℕ → List ℕ → Admission
+unfoldable pub with_room : Tested → List ℕ → List ℕ → Tested
 unfolding also_judged
 with_room a new lent = also_judged a (leb (length new) (length lent)) ShortList
 
 -- The refusal of who is not let in; else the new number of entries in use.
-unfoldable pub answered : Admission → ℕ → Result ℕ Refusal
-answered a used = elim a [ door.Admitted ↦ Ok used | door.Refused why ↦ Err why ]
+unfoldable pub answered : Tested → ℕ → Result ℕ Refusal
+answered a used = elim a [ Ok u ↦ Ok used | Err why ↦ Err why ]
 
 -- The list afterwards: the new entries, and past them what it held; on a refusal as it was lent.
-unfoldable pub listed : Admission → List ℕ → List ℕ → List ℕ
-listed a new lent = elim a [ door.Admitted ↦ new ++ drop (length new) lent | door.Refused why ↦ lent ]
+unfoldable pub listed : Tested → List ℕ → List ℕ → List ℕ
+listed a new lent = elim a [ Ok u ↦ new ++ drop (length new) lent | Err why ↦ lent ]
 
 -- The entries in use brought up to date for a pattern's letters in those of a text.
 unfoldable pub answer_of : Pattern → List ℕ → ℕ → List ℕ → ℕ → Result ℕ Refusal

@@ -1,7 +1,7 @@
 -- What the functions within the crate promise each other. No public contract cites it.
 use Rattle.std.specs.Prelude.{ℕ, suc, Result, ◌+◌, ◌-◌, ◌≤◌, ◌<◌, min, ◌≡◌, List, ◌++◌, length, get_or, take, drop}
-use Rattle.admission.specs.declared.Admission.TheVariants.{Admitted}
 use Rattle.lists.specs.Lists.{Splits}
+use Rattle.refusal.specs.Tests.{passed}
 use Rattle.refusal.specs.declared.Refusal.{Refusal}
 use Rattle.correct.specs.Answer.{with_room, answered, listed}
 use Rattle.correct.specs.declared.windows.Part.{Part}
@@ -28,5 +28,5 @@ pub record Joined (before : List ℕ) (used start past : ℕ) (found after : Lis
   pub high : ℕ
   pub at_start : Splits (take used before) start low
   pub at_past : Splits (take used before) past high
-  pub answer : r ≡ answered (with_room Admitted (replaced (take used before) low high found) before) (length (replaced (take used before) low high found))
-  pub list : after ≡ listed (with_room Admitted (replaced (take used before) low high found) before) (replaced (take used before) low high found) before
+  pub answer : r ≡ answered (with_room passed (replaced (take used before) low high found) before) (length (replaced (take used before) low high found))
+  pub list : after ≡ listed (with_room passed (replaced (take used before) low high found) before) (replaced (take used before) low high found) before

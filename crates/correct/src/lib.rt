@@ -17,26 +17,20 @@ ghost use Rattle.correct.specs.Answer.{answered, answer_of, list_of, plain_answe
 ghost use Rattle.correct.specs.Promise.{CoveredBy, StaysFull, NoZeroNear};
 ghost use Rattle.correct.specs.Internal.{Small, Joined};
 
-use admission::{Admission, LONGEST_TEXT, admit, also};
+use admission::{LONGEST_TEXT, admit, also};
 use pattern::{LONGEST_PATTERN, Pattern};
 use refusal::Refusal;
 use rules::NO_CAP;
-use search::SearchAnswer;
 use windows::Part;
 
 // The answer where nothing is searched: tests 4, 5 and 19, in that order. Who passes has the list as it is.
+#[tactic(auto, unfolding(crate::specs::Answer::answered, admission::specs::Admitted::admitted))]
 fn unsearched(pattern: Pattern, n: usize, in_order: bool, used: usize) -> Result<usize, Refusal>
     ensures { result ≡ answered (also_judged (admitted pattern n) in_order FalseList) used }
 {
-    let door = also(
-        admit(checked::is_prepared(pattern), n),
-        in_order,
-        Refusal::FalseList,
-    );
-    match door {
-        Admission::Admitted => Ok(used),
-        Admission::Refused(why) => Err(why),
-    }
+    let door = admit(checked::is_prepared(pattern), n);
+    also(door, in_order, Refusal::FalseList)?;
+    Ok(used)
 }
 
 // Puts the positions found, moved by `start`, in place of the entries in use from `start` on and below `past`, if the list has room for all (20).
@@ -92,12 +86,6 @@ pub fn correct(
     }
     let Part { start, end, past } = windows::around(place, pattern.len, n);
     let mut found = [0u32; LONGEST_PATTERN];
-    let answer = search::colussi(pattern, &text[start..end], NO_CAP, &mut found);
-    match answer {
-        SearchAnswer::Ran(report) => {
-            let written = report.written;
-            join(positions, used, &found[..written], start, past)
-        }
-        SearchAnswer::Refused(why) => Err(why),
-    }
+    let report = search::colussi(pattern, &text[start..end], NO_CAP, &mut found)?;
+    join(positions, used, &found[..report.written], start, past)
 }
