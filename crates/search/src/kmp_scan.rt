@@ -20,27 +20,24 @@ pub struct ByPlace {
     pub belows: [u16; RANKS],
 }
 
-// The tables by place of a pattern. They come from its tables by rank, where the noholes stand in ascending order, before the holes.
-pub fn by_place(pattern: &Pattern) -> ByPlace
+// Fills the tables by place of a pattern. They come from its tables by rank, where the noholes stand in ascending order, before the holes.
+pub fn fill_by_place(pattern: &Pattern, tables: &mut ByPlace)
     requires { (pattern.now.noholes ≤ pattern.now.len) × (pattern.now.len ≤ longest_pattern) }
-    ensures { TablesOf pattern.now.order pattern.now.shift pattern.now.len pattern.now.noholes result.shifts result.belows }
+    ensures { TablesOf pattern.now.order pattern.now.shift pattern.now.len pattern.now.noholes tables.new.shifts tables.new.belows }
 {
     let m = pattern.len;
-    let mut shifts = [0u16; RANKS];
-    let mut belows = [0u16; RANKS];
     let mut j: usize = 0;
     for p in 0..m {
-        belows[p] = j as u16;
+        tables.belows[p] = j as u16;
         if j < pattern.noholes && usize::from(pattern.order[j]) == p {
-            shifts[p] = pattern.shift[j];
+            tables.shifts[p] = pattern.shift[j];
             j += 1;
         } else {
-            shifts[p] = (p + 1) as u16;
+            tables.shifts[p] = (p + 1) as u16;
         }
     }
-    belows[m] = j as u16;
-    shifts[m] = pattern.shift[m];
-    ByPlace { shifts, belows }
+    tables.belows[m] = j as u16;
+    tables.shifts[m] = pattern.shift[m];
 }
 
 // The report of a scan that ends with i letters matched: q more comparisons were made at noholes than there are noholes among these i.

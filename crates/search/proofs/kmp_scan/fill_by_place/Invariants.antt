@@ -2,10 +2,10 @@
 use Rattle.std.proofs.Common.{ℕ, ◌≤◌, List}
 use Rattle.search.specs.Internal.KmpScan.{ByRank}
 use Rattle.search.proofs.KmpScan.{AtPlace}
-use Rattle.search.proofs.kmp_scan.by_place.Given as goal
+use Rattle.search.proofs.kmp_scan.fill_by_place.Given as goal
 
 abbrev pub invariant-loop-p : goal.invariant-loop-p
 invariant-loop-p l = record {
   number : l.j ≤ l.p;
-  places : (w : List ℕ) → ByRank w l.pattern.order l.pattern.shift l.pattern.len l.pattern.noholes → AtPlace w l.shifts l.belows l.p l.j;
+  places : (w : List ℕ) → ByRank w l.pattern.order l.pattern.shift l.pattern.len l.pattern.noholes → AtPlace w l.tables.shifts l.tables.belows l.p l.j;
 }
