@@ -13,7 +13,6 @@ use Rattle.refusal.specs.declared.Refusal.{Refusal}
 use Rattle.refusal.proofs.NotZero.{number_not_0}
 use Rattle.rules.specs.declared.Report.{Report}
 use Rattle.carried.specs.Carried.{carried_preparation, carried_report, carried, report_in, first_found, carried_first, first_in, carried_lengths, carried_update, no_such_record, carried_record, Searched, carried_directory, directory_in, carried_bounds, bounds_in}
-use Rattle.carried.specs.declared.Preparation.{Preparation}
 use Rattle.carried.specs.declared.SearchReport.{SearchReport}
 use Rattle.carried.specs.declared.First.{First}
 use Rattle.carried.specs.declared.Lengths.{Lengths}

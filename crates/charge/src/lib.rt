@@ -10,9 +10,5 @@ pub fn charge(count: u64) -> u64
     ensures answer { result ≡ charged count }
     ensures started { (count ≤ 1000 * result) × (1000 * result < count + 1000) }
 {
-    let whole = count / 1000;
-    if count % 1000 == 0 {
-        return whole;
-    }
-    whole + 1
+    count.div_ceil(1000)
 }

@@ -6,23 +6,15 @@ ghost use Rattle.columns.specs.Ended.{ended_with};
 
 use rules::{Ending, Report};
 
-// What a part leaves of a count, and 0 where the part is the greater.
-fn rest(count: u64, part: u64) -> u64
-    ensures { result ≡ count - part }
-{
-    if part < count { count - part } else { 0 }
-}
-
 // With so many comparisons at noholes.
 pub fn with_noholes(ending: Ending, count: u64, noholes: u64, written: usize) -> Report
     ensures answer { result ≡ ended_with ending count noholes (count - noholes) written }
 {
-    let holes = rest(count, noholes);
     Report {
         ending,
         count,
         noholes,
-        holes,
+        holes: count.saturating_sub(noholes),
         written,
     }
 }
@@ -31,11 +23,10 @@ pub fn with_noholes(ending: Ending, count: u64, noholes: u64, written: usize) ->
 pub fn with_holes(ending: Ending, count: u64, holes: u64, written: usize) -> Report
     ensures answer { result ≡ ended_with ending count (count - holes) holes written }
 {
-    let noholes = rest(count, holes);
     Report {
         ending,
         count,
-        noholes,
+        noholes: count.saturating_sub(holes),
         holes,
         written,
     }

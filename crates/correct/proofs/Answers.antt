@@ -1,6 +1,7 @@
 -- What a correction answers in each case, and what it leaves in the list. Assumes nothing.
 use Prim.Native.Nat.{ℕ, ◌≤◌, ◌<◌}
 use mathlib.Core.Path.{◌≡◌, refl, sym, ap, ◌∙◌}
+use mathlib.Core.Logic.{◌⊎◌, ⊎_elim}
 use mathlib.Core.Bool.{Bool, true, false}
 use mathlib.Core.List.{List, ◌++◌}
 use native.Mathlib.Omega.{arith}
@@ -8,12 +9,14 @@ use lib.Dec.{leb}
 use lib.ListN.{length, take, drop, take-append-drop}
 use lib.Seq.{length-take-le}
 use borrow.Author.Tests.{le-leb}
+use Rattle.std.specs.Prelude.{Result, Ok, Err}
 use Rattle.words.proofs.Cases.{not_both}
 use Rattle.admission.specs.Admitted.{longest_text, judged, admitted, also_judged}
 use Rattle.admission.specs.declared.Admission.{Admission}
 use Rattle.admission.specs.declared.Admission.TheVariants as door
 use Rattle.admission.proofs.Admitting.{refused_before, as_before, passes_all, admitted_is}
 use Rattle.lists.specs.Lists.{in_order}
+use Rattle.lists.proofs.Ascending.{in_order_is}
 use Rattle.pattern.specs.Letters.{word_of, text_of}
 use Rattle.pattern.specs.declared.Pattern.{Pattern}
 use Rattle.pattern.proofs.Letters.{length_text}
@@ -22,17 +25,15 @@ use Rattle.refusal.specs.declared.Refusal.TheVariants.{FalseList, ShortList}
 use Rattle.update.specs.Update.{updated}
 use Rattle.update.proofs.Joining.{updated_outside}
 use Rattle.correct.specs.Answer.{admitted_list, with_room, answered, listed, answer_of, list_of}
-use Rattle.correct.specs.declared.CorrectAnswer.{CorrectAnswer}
-use Rattle.correct.specs.declared.CorrectAnswer.TheVariants.{Updated, Refused}
 
 -- ---- Of what the door says
 
 module _ {a : Admission} (used : ℕ) where
-  pub answered_in : a ≡ door.Admitted → answered a used ≡ Updated used
+  pub answered_in : a ≡ door.Admitted → answered a used ≡ Ok used
   unfolding answered
   answered_in e = rw (e, answered) refl
 
-  pub answered_not : {why : Refusal} → a ≡ door.Refused why → answered a used ≡ Refused why
+  pub answered_not : {why : Refusal} → a ≡ door.Refused why → answered a used ≡ Err why
   unfolding answered
   answered_not e = rw (e, answered) refl
 
@@ -54,7 +55,7 @@ refused_by (door.Refused why) none = (why, refl)
 
 module _ (p : Pattern) (t : List ℕ) (place : ℕ) (lent : List ℕ) (used : ℕ) where
   -- The answer r, and the list afterwards.
-  pub record Answers (r : CorrectAnswer) (after : List ℕ) : Type 0 where
+  pub record Answers (r : Result ℕ Refusal) (after : List ℕ) : Type 0 where
     pub answer : r ≡ answer_of p t place lent used
     pub list : after ≡ list_of p t place lent used
 
@@ -70,7 +71,7 @@ module _ (p : Pattern) (t : List ℕ) (place : ℕ) (lent : List ℕ) (used : �
   tested = with_room before20 new_of lent
 
   -- It is the answer of the door that makes these tests.
-  pub answers_as : {r : CorrectAnswer} {after : List ℕ} → r ≡ answered tested (length new_of) → after ≡ listed tested new_of lent → Answers r after
+  pub answers_as : {r : Result ℕ Refusal} {after : List ℕ} → r ≡ answered tested (length new_of) → after ≡ listed tested new_of lent → Answers r after
   unfolding answer_of list_of
   answers_as e f = record { answer = e; list = f }
 
@@ -82,30 +83,25 @@ module _ (p : Pattern) (t : List ℕ) (place : ℕ) (lent : List ℕ) (used : �
   unfolding list_of
   as_list = refl
 
-  pub as_before20 : {listing : Bool} {r : CorrectAnswer} → listing ≡ in_order lent used → r ≡ answered (also_judged (admitted p (length t)) listing FalseList) used
-      → r ≡ answered before20 used
-  unfolding admitted_list
-  as_before20 is e = rw is at e
-
   -- A refusal before test 20 is the answer.
   tested_not : {why : Refusal} → before20 ≡ door.Refused why → tested ≡ door.Refused why
   unfolding with_room
   tested_not e = refused_before (leb (length new_of) (length lent)) ShortList e
 
-  pub refused : {why : Refusal} → before20 ≡ door.Refused why → Answers (Refused why) lent
+  pub refused : {why : Refusal} → before20 ≡ door.Refused why → Answers (Err why) lent
   refused e = answers_as (sym (answered_not _ (tested_not e))) (sym (listed_not new_of lent (tested_not e)))
 
   -- So where nothing is searched since a test is not passed.
-  not_in : (before20 ≡ door.Admitted → ⊥) → {r : CorrectAnswer} → r ≡ answered before20 used → Answers r lent
+  not_in : (before20 ≡ door.Admitted → ⊥) → {r : Result ℕ Refusal} → r ≡ answered before20 used → Answers r lent
   not_in none e =
       let R = refused_by before20 none in
       rw (e ∙ answered_not used R.1) (refused R.1)
 
-  pub long_text : longest_text < length t → {r : CorrectAnswer} → r ≡ answered before20 used → Answers r lent
+  long_text : longest_text < length t → {r : Result ℕ Refusal} → r ≡ answered before20 used → Answers r lent
   unfolding admitted_list
   long_text l = not_in (λ e. omega (arith, (admitted_is p (length t) (passes_all (admitted p (length t)) (in_order lent used) FalseList e).0).fits))
 
-  pub false_list : in_order lent used ≡ false → {r : CorrectAnswer} → r ≡ answered before20 used → Answers r lent
+  false_list : in_order lent used ≡ false → {r : Result ℕ Refusal} → r ≡ answered before20 used → Answers r lent
   unfolding admitted_list
   false_list f = not_in (λ e. not_both (in_order lent used) (passes_all (admitted p (length t)) (in_order lent used) FalseList e).1 f)
 
@@ -125,8 +121,19 @@ module _ (p : Pattern) (t : List ℕ) (place : ℕ) (lent : List ℕ) (used : �
     list_same door.Admitted = listed_in new_of lent refl ∙ rw (new_length, new_same) (take-append-drop used lent)
     list_same (door.Refused why) = listed_not new_of lent refl
 
-    pub place_outside : {r : CorrectAnswer} → r ≡ answered before20 used → Answers r lent
+    place_outside : {r : Result ℕ Refusal} → r ≡ answered before20 used → Answers r lent
     place_outside e = answers_as (e ∙ rw (tested_same, new_length) refl) (sym (list_same tested))
+
+  -- These are the cases where nothing is searched: the door answers, by how the list was found.
+  pub unsearched : {listing : Bool} → listing ≡ in_order lent used
+      → (longest_text < length t) ⊎ (((length t ≤ longest_text) × (listing ≡ false)) ⊎ ((length t ≤ longest_text) × (listing ≡ true) × (length t ≤ place)))
+      → {r : Result ℕ Refusal} → r ≡ answered (also_judged (admitted p (length t)) listing FalseList) used → Answers r lent
+  unfolding admitted_list
+  unsearched is cases e =
+      let f = rw is at e in
+      ⊎_elim (λ l. long_text l f)
+      (λ more. ⊎_elim (λ l. false_list (sym is ∙ l.1) f) (λ l. place_outside (in_order_is lent used (sym is ∙ l.1)).0 l.2 f) more)
+      cases
 
   -- ---- In a list that is in order only tests 4, 5 and 20 are left
 
@@ -136,7 +143,7 @@ module _ (p : Pattern) (t : List ℕ) (place : ℕ) (lent : List ℕ) (used : �
     before_is = as_before (admitted p (length t)) FalseList order
 
     -- Who passes the first two is told by the room.
-    pub updates : admitted p (length t) ≡ door.Admitted → {r : CorrectAnswer} {new after : List ℕ} → new ≡ new_of
+    pub updates : admitted p (length t) ≡ door.Admitted → {r : Result ℕ Refusal} {new after : List ℕ} → new ≡ new_of
         → r ≡ answered (with_room door.Admitted new lent) (length new) → after ≡ listed (with_room door.Admitted new lent) new lent → Answers r after
     updates e is f g =
         let h = before_is ∙ e in

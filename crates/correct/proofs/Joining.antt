@@ -4,17 +4,18 @@ use mathlib.Core.Path.{◌≡◌, refl, sym, ap, ◌∙◌}
 use mathlib.Core.List.{List}
 use native.Mathlib.Omega.{arith}
 use lib.Dec.{leb}
-use lib.ListN.{length, take, drop, length-drop}
-use lib.Seq.{paste, length-paste, length-take-le}
+use lib.ListN.{length, take, drop}
+use lib.Seq.{paste, length-take-le}
 use borrow.Author.Tests.{le-leb, lt-leb}
+use Rattle.std.specs.Prelude.{Result, Ok, Err}
 use Rattle.admission.specs.declared.Admission.TheVariants as door
 use Rattle.admission.proofs.Admitting.{refused_then, lets_in_then}
 use Rattle.lists.specs.Lists.{Splits}
 use Rattle.lists.proofs.Bounds.{splits_order}
+use Rattle.refusal.specs.declared.Refusal.{Refusal}
 use Rattle.refusal.specs.declared.Refusal.TheVariants.{ShortList}
 use Rattle.correct.specs.Answer.{with_room}
 use Rattle.correct.specs.Internal.{replaced, Joined}
-use Rattle.correct.specs.declared.CorrectAnswer.TheVariants.{Updated, Refused}
 use Rattle.correct.proofs.Pasting.{length_replaced, moved_and_put}
 use Rattle.correct.proofs.Answers.{answered_in, answered_not, listed_in, listed_not}
 
@@ -35,33 +36,30 @@ module _ (l s : List ℕ) (count used start past low high : ℕ) (many : length 
   low_high : low ≤ high
   low_high = splits_order (take used l) start past low high order S T
 
-  pub high_used : high ≤ used
+  high_used : high ≤ used
   high_used = omega (arith, T.inside, length-take-le used l fits)
 
   abbrev new : List ℕ
   new = replaced (take used l) low high s
 
   -- What is kept needs no more room than what was in use.
-  pub kept_fits : low + (used - high) ≤ used
+  kept_fits : low + (used - high) ≤ used
   kept_fits = omega (arith, low_high, high_used)
 
   new_length : length new ≡ low + count + (used - high)
   new_length = rw many at (length_replaced l s used low high low_high high_used fits)
 
-  pub too_short : length l - (low + (used - high)) < count → Joined l used start past s l (Refused ShortList)
+  pub too_short : length l - (low + (used - high)) < count → Joined l used start past s l (Err ShortList)
   too_short h =
       let e = no_room new l (omega (arith, new_length, kept_fits)) in
       record { low = low; high = high; at_start = S; at_past = T; answer = sym (answered_not _ e); list = sym (listed_not new l e) }
 
   module _ (room : count ≤ length l - (low + (used - high))) where
-    pub all_fits : low + count + (used - high) ≤ length l
+    all_fits : low + count + (used - high) ≤ length l
     all_fits = omega (arith, kept_fits)
 
-    pub put_fits : {slid : List ℕ} → slid ≡ paste l (low + count) (drop high l) (used - high) → low + count ≤ length slid
-    put_fits e = rw (e, length-paste l (low + count) (drop high l) (used - high) all_fits (omega (arith, length-drop high l, fits))) (omega (arith, all_fits))
-
     pub joins : {slid after : List ℕ} → slid ≡ paste l (low + count) (drop high l) (used - high) → after ≡ paste slid low s count
-        → Joined l used start past s after (Updated (low + (used - high) + count))
+        → Joined l used start past s after (Ok (low + (used - high) + count))
     joins f g =
         let e = room_for new l (omega (arith, new_length, all_fits)) in
         let whole = rw many at (moved_and_put l s used low high low_high high_used fits (omega (arith, all_fits))) in
@@ -70,6 +68,6 @@ module _ (l s : List ℕ) (count used start past low high : ℕ) (many : length 
           high = high;
           at_start = S;
           at_past = T;
-          answer = ap Updated (omega (arith, new_length)) ∙ sym (answered_in (length new) e);
+          answer = ap Ok (omega (arith, new_length)) ∙ sym (answered_in (length new) e);
           list = rw (g, f) whole ∙ sym (listed_in new l e);
         }

@@ -1,8 +1,6 @@
 -- The laws behind the functions' proofs, a module an idea; a module uses those above it.
 pub mod Pasting
-pub mod Moves
 pub mod Bisecting
-pub mod Around
 pub mod Answers
 pub mod Joining
 pub mod Searching

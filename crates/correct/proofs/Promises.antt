@@ -7,6 +7,7 @@ use native.Mathlib.Omega.{arith}
 use lib.Dec.{leb}
 use lib.ListN.{length, take, drop}
 use lib.Seq.{take-append_seam, drop-append_seam}
+use Rattle.std.specs.Prelude.{Result, Ok, Err, IfOk}
 use Rattle.words.proofs.Cases.{less_or}
 use Rattle.words.proofs.Entries.{past_end}
 use Rattle.admission.specs.Admitted.{admitted, IsAdmitted}
@@ -20,14 +21,14 @@ use Rattle.lists.proofs.Ascending.{in_order_is}
 use Rattle.pattern.specs.Letters.{own_bytes, word_of, text_of}
 use Rattle.pattern.specs.declared.Pattern.{Pattern}
 use Rattle.pattern.proofs.Letters.{text_through, length_word, length_text, word_plain, text_plain}
+use Rattle.refusal.specs.declared.Refusal.{Refusal}
 use Rattle.refusal.specs.declared.Refusal.TheVariants.{FalseList, ShortList}
 use Rattle.search.proofs.Promises.{occurrence_covers_no_zero, bytes_occur, letters_occur}
 use Rattle.update.specs.Update.{updated}
 use Rattle.update.specs.Promise.{Covers, DifferAtMost, Corrected}
 use Rattle.update.proofs.Correcting.{corrected, full_list}
 use Rattle.correct.specs.Answer.{admitted_list, with_room, answered, listed, answer_of, list_of, plain_answer_of, plain_list_of}
-use Rattle.correct.specs.Promise.{IfUpdated, CoveredBy, StaysFull, NoZeroNear}
-use Rattle.correct.specs.declared.CorrectAnswer.{CorrectAnswer}
+use Rattle.correct.specs.Promise.{CoveredBy, StaysFull, NoZeroNear}
 use Rattle.correct.proofs.Answers.{answered_in, answered_not, listed_in, Answers, new_of, before20, tested, as_answer, as_list}
 
 -- Texts that differ at most at a place are read so through classes.
@@ -58,11 +59,11 @@ module _ (p : Pattern) (t : List ℕ) (place : ℕ) (lent : List ℕ) (used : �
   -- What is promised of those that are let in holds of every answer.
   promised : (P : ℕ → List ℕ → Type 0)
       → (IsAdmitted p (length t) → Ascending (take used lent) → P (length new) (new ++ drop (length new) lent))
-      → {r : CorrectAnswer} {after : List ℕ} → Answers p t place lent used r after → IfUpdated (λ k. P k after) r
+      → {r : Result ℕ Refusal} {after : List ℕ} → Answers p t place lent used r after → IfOk r (λ k. P k after)
   promised P holds A = rw (A.answer ∙ as_answer p t place lent used, A.list ∙ as_list p t place lent used) (at (tested p t place lent used) refl)
     where
       at : (a : Admission) → tested p t place lent used ≡ a
-          → IfUpdated (λ k. P k (listed (tested p t place lent used) new lent)) (answered (tested p t place lent used) (length new))
+          → IfOk (answered (tested p t place lent used) (length new)) (λ k. P k (listed (tested p t place lent used) new lent))
       at door.Admitted e = let h = passed e in rw (answered_in (length new) e, listed_in new lent e) (holds h.0 h.1.1)
       at (door.Refused why) e = rw (answered_not (length new) e) tt
 
@@ -92,7 +93,7 @@ module _ (p : Pattern) (t : List ℕ) (place : ℕ) (lent : List ℕ) (used : �
       occurrence_covers_no_zero p t b I.prepared (W.0 h)
 
   -- Through the classes that give each value itself, it is the correction by bytes.
-  plain : p.classes ≡ identity → {r : CorrectAnswer} {after : List ℕ} → Answers p t place lent used r after
+  plain : p.classes ≡ identity → {r : Result ℕ Refusal} {after : List ℕ} → Answers p t place lent used r after
       → (r ≡ plain_answer_of p t place lent used) × (after ≡ plain_list_of p t place lent used)
   unfolding answer_of list_of plain_answer_of plain_list_of
   plain e A =
@@ -100,33 +101,23 @@ module _ (p : Pattern) (t : List ℕ) (place : ℕ) (lent : List ℕ) (used : �
       (A.answer ∙ rw same refl, A.list ∙ rw same refl)
 
   -- What `correct` ensures of its answer and its list.
-  pub correct_promises : {r : CorrectAnswer} {after : List ℕ} → Answers p t place lent used r after
-      → (r ≡ answer_of p t place lent used) × ((after ≡ list_of p t place lent used)
-      × (IfUpdated (λ k. Corrected (word_of p) (text_of p t) place (take used lent) (take k after)) r
-      × (IfUpdated (λ k. drop k after ≡ drop k lent) r
-      × (IfUpdated (λ k. CoveredBy p.classes (own_bytes p) t place (take k after)) r
-      × (IfUpdated (λ k. StaysFull p t place (take used lent) (take k after)) r
-      × (IfUpdated (λ k. NoZeroNear (length (word_of p)) t place (take k after)) r
-      × (p.classes ≡ identity → (r ≡ plain_answer_of p t place lent used) × (after ≡ plain_list_of p t place lent used))))))))
-  correct_promises A = (
-    A.answer,
-    (
-      A.list,
-      (
-        promised (λ k after. Corrected (word_of p) (text_of p t) place (take used lent) (take k after)) (λ I B. rw begins (here B)) A,
-        (
-          promised (λ k after. drop k after ≡ drop k lent) (λ I B. drop-append_seam new (drop (length new) lent)) A,
-          (
-            promised (λ k after. CoveredBy p.classes (own_bytes p) t place (take k after)) (λ I B. rw begins (in_bytes B)) A,
-            (
-              promised (λ k after. StaysFull p t place (take used lent) (take k after)) (λ I B. rw begins stays_full) A,
-              (
-                promised (λ k after. NoZeroNear (length (word_of p)) t place (take k after)) (λ I B. rw begins (no_zero I B)) A,
-                λ e. plain e A,
-              ),
-            ),
-          ),
-        ),
-      ),
-    ),
-  )
+  pub correct_promises : {r : Result ℕ Refusal} {after : List ℕ} → Answers p t place lent used r after → record {
+    answer : r ≡ answer_of p t place lent used;
+    list : after ≡ list_of p t place lent used;
+    corrected : IfOk r (λ k. Corrected (word_of p) (text_of p t) place (take used lent) (take k after));
+    rest : IfOk r (λ k. drop k after ≡ drop k lent);
+    classed : IfOk r (λ k. CoveredBy p.classes (own_bytes p) t place (take k after));
+    full : IfOk r (λ k. StaysFull p t place (take used lent) (take k after));
+    zeros : IfOk r (λ k. NoZeroNear (length (word_of p)) t place (take k after));
+    plain : p.classes ≡ identity → (r ≡ plain_answer_of p t place lent used) × (after ≡ plain_list_of p t place lent used);
+  }
+  correct_promises A = record {
+    answer = A.answer;
+    list = A.list;
+    corrected = promised (λ k after. Corrected (word_of p) (text_of p t) place (take used lent) (take k after)) (λ I B. rw begins (here B)) A;
+    rest = promised (λ k after. drop k after ≡ drop k lent) (λ I B. drop-append_seam new (drop (length new) lent)) A;
+    classed = promised (λ k after. CoveredBy p.classes (own_bytes p) t place (take k after)) (λ I B. rw begins (in_bytes B)) A;
+    full = promised (λ k after. StaysFull p t place (take used lent) (take k after)) (λ I B. rw begins stays_full) A;
+    zeros = promised (λ k after. NoZeroNear (length (word_of p)) t place (take k after)) (λ I B. rw begins (no_zero I B)) A;
+    plain = λ e. plain e A;
+  }

@@ -7,6 +7,7 @@ use lib.ListN.{length, take, drop}
 use lib.Seq.{length-take-le}
 use Rattle.words.proofs.Numbers.{count_le}
 use Rattle.words.proofs.Listing.{length_ascending}
+use Rattle.std.specs.Prelude.{Result, Ok, Err}
 use Rattle.admission.specs.Admitted.{longest_text, admitted}
 use Rattle.admission.specs.declared.Admission.{Admission}
 use Rattle.admission.specs.declared.Admission.TheVariants as door
@@ -36,7 +37,6 @@ use Rattle.update.proofs.Parts.{part, length_part}
 use Rattle.update.proofs.Covering.{first_window, past_window, covering_part}
 use Rattle.update.proofs.Joining.{updated_within}
 use Rattle.correct.specs.Internal.{IsAround, Small, replaced, Joined}
-use Rattle.correct.specs.declared.CorrectAnswer.{CorrectAnswer}
 use Rattle.correct.specs.declared.windows.Part.{Part}
 use Rattle.correct.proofs.Answers.{door_of_part}
 
@@ -211,7 +211,7 @@ module _ (p : Pattern) (t : List ℕ) (place : ℕ) (r : Part) (within : place <
   not_by lent not e = sym same_door ∙ refused_admitted p (part r.start r.end t) no_cap lent (sym e ∙ not)
 
 -- What is found, joined with the entries kept, is the list brought up to date.
-pub joined_is : (p : Pattern) (t : List ℕ) (place : ℕ) (r : Part) (report : Report) (list lent : List ℕ) (used : ℕ) {after : List ℕ} {answer : CorrectAnswer}
+pub joined_is : (p : Pattern) (t : List ℕ) (place : ℕ) (r : Part) (report : Report) (list lent : List ℕ) (used : ℕ) {after : List ℕ} {answer : Result ℕ Refusal}
     → place < length t → Found p t place r report list
     → (J : Joined lent used r.start r.past (moved r.start (take report.written list)) after answer)
     → replaced (take used lent) J.low J.high (moved r.start (take report.written list)) ≡ updated (word_of p) (text_of p t) place (take used lent)

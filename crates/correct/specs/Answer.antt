@@ -1,15 +1,14 @@
 -- Document 02, C-22: what the correction of a list answers, and what it leaves in the list, refusals included.
-use Rattle.std.specs.Prelude.{ℕ, List, ◌++◌, leb, length, take, drop}
+use Rattle.std.specs.Prelude.{ℕ, List, ◌++◌, Result, Ok, Err, leb, length, take, drop}
 use Rattle.admission.specs.Admitted.{admitted, also_judged}
 use Rattle.admission.specs.declared.Admission.{Admission}
 use Rattle.admission.specs.declared.Admission.TheVariants as door
 use Rattle.lists.specs.Lists.{in_order}
 use Rattle.pattern.specs.Letters.{own_bytes, word_of, text_of}
 use Rattle.pattern.specs.declared.Pattern.{Pattern}
+use Rattle.refusal.specs.declared.Refusal.{Refusal}
 use Rattle.refusal.specs.declared.Refusal.TheVariants.{FalseList, ShortList}
 use Rattle.update.specs.Update.{updated}
-use Rattle.correct.specs.declared.CorrectAnswer.{CorrectAnswer}
-use Rattle.correct.specs.declared.CorrectAnswer.TheVariants.{Updated, Refused}
 
 -- Tests 4 and 5, and then 19: the entries in use are not strictly ascending, or more than the list has.
 unfoldable pub admitted_list : Pattern → ℕ → List ℕ → ℕ → Admission
@@ -22,15 +21,15 @@ unfolding also_judged
 with_room a new lent = also_judged a (leb (length new) (length lent)) ShortList
 
 -- The refusal of who is not let in; else the new number of entries in use.
-unfoldable pub answered : Admission → ℕ → CorrectAnswer
-answered a used = elim a [ door.Admitted ↦ Updated used | door.Refused why ↦ Refused why ]
+unfoldable pub answered : Admission → ℕ → Result ℕ Refusal
+answered a used = elim a [ door.Admitted ↦ Ok used | door.Refused why ↦ Err why ]
 
 -- The list afterwards: the new entries, and past them what it held; on a refusal as it was lent.
 unfoldable pub listed : Admission → List ℕ → List ℕ → List ℕ
 listed a new lent = elim a [ door.Admitted ↦ new ++ drop (length new) lent | door.Refused why ↦ lent ]
 
 -- The entries in use brought up to date for a pattern's letters in those of a text.
-unfoldable pub answer_of : Pattern → List ℕ → ℕ → List ℕ → ℕ → CorrectAnswer
+unfoldable pub answer_of : Pattern → List ℕ → ℕ → List ℕ → ℕ → Result ℕ Refusal
 unfolding admitted_list with_room answered word_of text_of updated
 answer_of p t place lent used = answered (with_room (admitted_list p (length t) lent used) (updated (word_of p) (text_of p t) place (take used lent)) lent)
     (length (updated (word_of p) (text_of p t) place (take used lent)))
@@ -41,7 +40,7 @@ list_of p t place lent used = listed (with_room (admitted_list p (length t) lent
     (updated (word_of p) (text_of p t) place (take used lent)) lent
 
 -- The same for its bytes in a text's, which the classes return that give each value itself (C-19).
-unfoldable pub plain_answer_of : Pattern → List ℕ → ℕ → List ℕ → ℕ → CorrectAnswer
+unfoldable pub plain_answer_of : Pattern → List ℕ → ℕ → List ℕ → ℕ → Result ℕ Refusal
 unfolding admitted_list with_room answered updated
 plain_answer_of p t place lent used = answered (with_room (admitted_list p (length t) lent used) (updated (own_bytes p) t place (take used lent)) lent)
     (length (updated (own_bytes p) t place (take used lent)))

@@ -1,9 +1,9 @@
 -- What the functions within the crate promise each other. No public contract cites it.
-use Rattle.std.specs.Prelude.{ℕ, suc, ◌+◌, ◌-◌, ◌≤◌, ◌<◌, min, ◌≡◌, List, ◌++◌, length, get_or, take, drop}
+use Rattle.std.specs.Prelude.{ℕ, suc, Result, ◌+◌, ◌-◌, ◌≤◌, ◌<◌, min, ◌≡◌, List, ◌++◌, length, get_or, take, drop}
 use Rattle.admission.specs.declared.Admission.TheVariants.{Admitted}
 use Rattle.lists.specs.Lists.{Splits}
+use Rattle.refusal.specs.declared.Refusal.{Refusal}
 use Rattle.correct.specs.Answer.{with_room, answered, listed}
-use Rattle.correct.specs.declared.CorrectAnswer.{CorrectAnswer}
 use Rattle.correct.specs.declared.windows.Part.{Part}
 
 -- The part of a text of n bytes that the windows of m bytes make up which cover a place; they are the positions from its start on and below past.
@@ -23,7 +23,7 @@ abbrev pub replaced : List ℕ → ℕ → ℕ → List ℕ → List ℕ
 replaced inUse low high new = take low inUse ++ (new ++ drop high inUse)
 
 -- The entries in use from start on and below past are replaced by the numbers found, if the list has room.
-pub record Joined (before : List ℕ) (used start past : ℕ) (found after : List ℕ) (r : CorrectAnswer) : Type 0 where
+pub record Joined (before : List ℕ) (used start past : ℕ) (found after : List ℕ) (r : Result ℕ Refusal) : Type 0 where
   pub low : ℕ
   pub high : ℕ
   pub at_start : Splits (take used before) start low

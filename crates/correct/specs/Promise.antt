@@ -6,13 +6,6 @@ use Rattle.pattern.specs.Letters.{word_of, text_of}
 use Rattle.pattern.specs.declared.Pattern.{Pattern}
 use Rattle.rules.specs.Occurs.{CoversNo, occurrences}
 use Rattle.update.specs.Promise.{Covers, DifferAtMost}
-use Rattle.correct.specs.declared.CorrectAnswer.{CorrectAnswer}
-use Rattle.correct.specs.declared.CorrectAnswer.TheVariants.{Updated, Refused}
-
--- Where nothing was refused, the new number of entries in use is such.
-abbrev pub IfUpdated : (ℕ → Type 0) → CorrectAnswer → Type 0
-IfUpdated P (Updated used) = P used
-IfUpdated P (Refused why) = Unit {0}
 
 -- In terms of bytes, of which two count as equal when their classes are: of the windows that cover the place, listed are exactly those where the
 -- bytes w so occur in the text t.

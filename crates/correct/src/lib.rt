@@ -6,7 +6,7 @@ mod bisect;
 mod moving;
 mod windows;
 
-ghost use Rattle.std.specs.Prelude.{◌≡◌, ◌+◌, ◌≤◌, ◌<◌, length, take, drop};
+ghost use Rattle.std.specs.Prelude.{IfOk, ◌≡◌, ◌+◌, ◌≤◌, ◌<◌, length, take, drop};
 ghost use Rattle.admission.specs.Admitted.{admitted, also_judged};
 ghost use Rattle.classes.specs.Classes.{identity};
 ghost use Rattle.lists.specs.Lists.{Ascending, moved};
@@ -14,7 +14,7 @@ ghost use Rattle.pattern.specs.Letters.{own_bytes, word_of, text_of};
 ghost use Rattle.refusal.specs.declared.Refusal.TheVariants.{FalseList};
 ghost use Rattle.update.specs.Promise.{Corrected};
 ghost use Rattle.correct.specs.Answer.{answered, answer_of, list_of, plain_answer_of, plain_list_of};
-ghost use Rattle.correct.specs.Promise.{IfUpdated, CoveredBy, StaysFull, NoZeroNear};
+ghost use Rattle.correct.specs.Promise.{CoveredBy, StaysFull, NoZeroNear};
 ghost use Rattle.correct.specs.Internal.{Small, Joined};
 
 use admission::{Admission, LONGEST_TEXT, admit, also};
@@ -22,16 +22,10 @@ use pattern::{LONGEST_PATTERN, Pattern};
 use refusal::Refusal;
 use rules::NO_CAP;
 use search::SearchAnswer;
-
-// The new number of entries in use.
-#[derive(Clone, Copy)]
-pub enum CorrectAnswer {
-    Updated(usize),
-    Refused(Refusal),
-}
+use windows::Part;
 
 // The answer where nothing is searched: tests 4, 5 and 19, in that order. Who passes has the list as it is.
-fn unsearched(pattern: Pattern, n: usize, in_order: bool, used: usize) -> CorrectAnswer
+fn unsearched(pattern: Pattern, n: usize, in_order: bool, used: usize) -> Result<usize, Refusal>
     ensures { result ≡ answered (also_judged (admitted pattern n) in_order FalseList) used }
 {
     let door = also(
@@ -40,8 +34,8 @@ fn unsearched(pattern: Pattern, n: usize, in_order: bool, used: usize) -> Correc
         Refusal::FalseList,
     );
     match door {
-        Admission::Admitted => CorrectAnswer::Updated(used),
-        Admission::Refused(why) => CorrectAnswer::Refused(why),
+        Admission::Admitted => Ok(used),
+        Admission::Refused(why) => Err(why),
     }
 }
 
@@ -52,21 +46,22 @@ fn join(
     found: &[u32],
     start: usize,
     past: usize,
-) -> CorrectAnswer
+) -> Result<usize, Refusal>
     requires used_in_bounds { (used ≤ length positions.old) × Ascending (take used positions.old) × (start ≤ past) }
     requires small { Small start found.now }
     ensures { Joined positions.old used start past (moved start found.now) positions.new result }
 {
-    let low = bisect::below(positions, used, start);
-    let high = bisect::below(positions, used, past);
+    let in_use = &positions[..used];
+    let low = bisect::below(in_use, start);
+    let high = bisect::below(in_use, past);
     let kept = low + (used - high);
     let new = found.len();
     if positions.len() - kept < new {
-        return CorrectAnswer::Refused(Refusal::ShortList);
+        return Err(Refusal::ShortList);
     }
     moving::slide(positions, high, used - high, low + new);
     moving::put(positions, low, found, start);
-    CorrectAnswer::Updated(kept + new)
+    Ok(kept + new)
 }
 
 // Brings the first `used` entries of a list of positions up to date after the byte at a place of the text was corrected. The windows that cover the
@@ -80,31 +75,22 @@ pub fn correct(
     place: usize,
     positions: &mut [u32],
     used: usize,
-) -> CorrectAnswer
+) -> Result<usize, Refusal>
     ensures answer { result ≡ answer_of pattern text.now place positions.old used }
     ensures list { positions.new ≡ list_of pattern text.now place positions.old used }
-    ensures corrected { IfUpdated (λ new. Corrected (word_of pattern) (text_of pattern text.now) place (take used positions.old) (take new positions.new)) result }
-    ensures rest { IfUpdated (λ new. drop new positions.new ≡ drop new positions.old) result }
-    ensures classed { IfUpdated (λ new. CoveredBy pattern.classes (own_bytes pattern) text.now place (take new positions.new)) result }
-    ensures full { IfUpdated (λ new. StaysFull pattern text.now place (take used positions.old) (take new positions.new)) result }
-    ensures zeros { IfUpdated (λ new. NoZeroNear (length (word_of pattern)) text.now place (take new positions.new)) result }
+    ensures corrected { IfOk result (λ new. Corrected (word_of pattern) (text_of pattern text.now) place (take used positions.old) (take new positions.new)) }
+    ensures rest { IfOk result (λ new. drop new positions.new ≡ drop new positions.old) }
+    ensures classed { IfOk result (λ new. CoveredBy pattern.classes (own_bytes pattern) text.now place (take new positions.new)) }
+    ensures full { IfOk result (λ new. StaysFull pattern text.now place (take used positions.old) (take new positions.new)) }
+    ensures zeros { IfOk result (λ new. NoZeroNear (length (word_of pattern)) text.now place (take new positions.new)) }
     ensures plain { pattern.classes ≡ identity → (result ≡ plain_answer_of pattern text.now place positions.old used) × (positions.new ≡ plain_list_of pattern text.now place positions.old used) }
 {
     let n = text.len();
     let in_order = lists::in_order(positions, used);
-    if LONGEST_TEXT < n {
+    if LONGEST_TEXT < n || !in_order || n <= place {
         return unsearched(pattern, n, in_order, used);
     }
-    if !in_order {
-        return unsearched(pattern, n, in_order, used);
-    }
-    if n <= place {
-        return unsearched(pattern, n, in_order, used);
-    }
-    let around = windows::around(place, pattern.len, n);
-    let start = around.start;
-    let end = around.end;
-    let past = around.past;
+    let Part { start, end, past } = windows::around(place, pattern.len, n);
     let mut found = [0u32; LONGEST_PATTERN];
     let answer = search::colussi(pattern, &text[start..end], NO_CAP, &mut found);
     match answer {
@@ -112,6 +98,6 @@ pub fn correct(
             let written = report.written;
             join(positions, used, &found[..written], start, past)
         }
-        SearchAnswer::Refused(why) => CorrectAnswer::Refused(why),
+        SearchAnswer::Refused(why) => Err(why),
     }
 }

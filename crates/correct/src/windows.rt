@@ -1,9 +1,10 @@
 // The windows that cover a place.
-ghost use Rattle.std.specs.Prelude.{◌<◌};
+ghost use Rattle.std.specs.Prelude.{◌≤◌, ◌<◌};
+ghost use Rattle.admission.specs.Admitted.{longest_text};
 ghost use Rattle.correct.specs.Internal.{IsAround};
 
 // The part of the text that those windows make up, from start on and below end; they are the positions from start on and below past.
-#[derive(Clone, Copy)]
+#[derive(Clone, Copy, Default)]
 pub struct Part {
     pub start: usize,
     pub end: usize,
@@ -12,18 +13,14 @@ pub struct Part {
 
 // For windows of m bytes in a text of n. Where m is 0, which no prepared pattern's is, the part is empty.
 pub fn around(place: usize, m: usize, n: usize) -> Part
-    requires { place < n }
+    requires { (place < n) × (n ≤ longest_text) }
     ensures { IsAround m n place result }
 {
     if m == 0 {
-        return Part {
-            start: 0,
-            end: 0,
-            past: 0,
-        };
+        return Part::default();
     }
-    let start = if place < m { 0 } else { place - m + 1 };
-    let end = if n - place <= m { n } else { place + m };
-    let past = if end < m { 0 } else { end - m + 1 };
+    let start = (place + 1).saturating_sub(m);
+    let end = place.saturating_add(m).min(n);
+    let past = (end + 1).saturating_sub(m);
     Part { start, end, past }
 }

@@ -44,20 +44,22 @@ impl Ranks<'_> {
         ensures known { Passed self.now.letters.now self.now.order.now passed.new }
     {
         let m = self.letters.len();
+        let mut shift = m;
         'distances: for k in 1..m {
             if self.present_rules_out(i, k) {
                 continue 'distances;
             }
-            for j in usize::from(passed[k])..i {
+            'ranks: for j in usize::from(passed[k])..i {
                 if self.match_rules_out(j, k) {
                     passed[k] = j as u16;
                     continue 'distances;
                 }
             }
             passed[k] = i as u16;
-            return k;
+            shift = k;
+            break;
         }
-        m
+        shift
     }
 
     // The shifts of all ranks.

@@ -7,33 +7,29 @@ use native.Mathlib.Omega.{arith}
 use lib.ListN.{length, drop, length-drop}
 use lib.Seq.{length-take-le}
 use borrow.Author.Tests.{lt-ltb, le-ltb}
+use Rattle.std.specs.Prelude.{Option, Some, None, IfSome, Result, Ok, Err, IfOk}
 use Rattle.refusal.specs.declared.Refusal.{Refusal}
 use Rattle.words.proofs.Cases.{less_or}
 use Rattle.directory.specs.Archive.{directory_start, start_of, length_of, end_of, directory_of, bounds_of, record_of, bounds_by}
-use Rattle.directory.specs.Promise.{IfAt, Lies}
+use Rattle.directory.specs.Promise.{Lies}
 use Rattle.directory.specs.declared.Bounds.{Bounds}
-use Rattle.directory.specs.declared.BoundsAnswer.{BoundsAnswer}
-use Rattle.directory.specs.declared.BoundsAnswer.TheVariants.{At, NoSuchRecord}
-use Rattle.directory.specs.declared.BoundsAnswer.TheVariants as answers
 use Rattle.directory.specs.declared.Directory.{Directory}
-use Rattle.directory.specs.declared.DirectoryAnswer.{DirectoryAnswer}
-use Rattle.directory.specs.declared.DirectoryAnswer.TheVariants.{Read, Refused}
 use Rattle.directory.proofs.Touching.{ends_by}
 use Rattle.directory.proofs.Reading.{read_is}
 
 module _ (a : List ℕ) (r : ℕ) where
   -- ---- What is answered
 
-  pub refused : {why : Refusal} → directory_of a ≡ Refused why → bounds_by a r ≡ answers.Refused why
+  pub refused : {why : Refusal} → directory_of a ≡ Err why → bounds_by a r ≡ Err why
   unfolding bounds_by
   refused e = rw (e, bounds_by) refl
 
-  module _ {d : Directory} (e : directory_of a ≡ Read d) where
-    pub none : d.records ≤ r → bounds_by a r ≡ NoSuchRecord
+  module _ {d : Directory} (e : directory_of a ≡ Ok d) where
+    pub none : d.records ≤ r → bounds_by a r ≡ Ok None
     unfolding bounds_by
     none l = rw (e, le-ltb r d.records l, bounds_by) refl
 
-    pub found : r < d.records → bounds_by a r ≡ At (bounds_of a r)
+    pub found : r < d.records → bounds_by a r ≡ Ok (Some (bounds_of a r))
     unfolding bounds_by
     found l = rw (e, lt-ltb r d.records l, bounds_by) refl
 
@@ -61,17 +57,20 @@ module _ (a : List ℕ) (r : ℕ) where
           fits = omega (arith, length-take-le len (drop start a) (omega (arith, length-drop start a, upto)), upto, A.fits);
         }
 
-  -- What `find_record` ensures of its answer.
-  pub where_it_lies : {b : BoundsAnswer} → b ≡ bounds_by a r → (b ≡ bounds_by a r) × IfAt (Lies a r) b
-  where_it_lies e = (e, rw e (at (directory_of a) refl))
+  -- What `find_record` answers lies as it promises.
+  pub where_it_lies : {b : Result (Option Bounds) Refusal} → b ≡ bounds_by a r → IfOk b (λ o. IfSome o (Lies a r))
+  where_it_lies e = rw e (at (directory_of a) refl)
     where
-      at : (o : DirectoryAnswer) → directory_of a ≡ o → IfAt (Lies a r) (bounds_by a r)
-      at (Read d) h = ⊎_elim
+      at : (o : Result Directory Refusal) → directory_of a ≡ o → IfOk (bounds_by a r) (λ o. IfSome o (Lies a r))
+      at (Ok d) h = ⊎_elim
           (λ (l : r < d.records). rw (found h l) (lies h l))
           (λ (l : d.records ≤ r). rw (none h l) tt)
           (less_or r d.records)
-      at (Refused why) h = rw (refused h) tt
+      at (Err why) h = rw (refused h) tt
 
   -- The bounds that are found.
-  pub lies_at : {b : Bounds} → bounds_by a r ≡ At b → Lies a r b
-  lies_at e = (where_it_lies (sym e)).1
+  pub lies_at : {b : Bounds} → bounds_by a r ≡ Ok (Some b) → Lies a r b
+  lies_at e = where_it_lies (sym e)
+
+-- What is answered where no record is found.
+pub ruleset missing = (refused, none)

@@ -62,3 +62,6 @@ module _ (a : List ℕ) (d : ℕ) where
       (λ (h : r < n). omega (arith, ends_by n r (λ i g. T i (omega arith)) h, T n (omega arith)))
       (λ (h : n ≤ r). let z : r ≡ n = omega arith in rw z (omega arith))
       (less_or r n)
+
+-- What a walk over the records needs.
+pub ruleset walking = (touch_more, end_more, touched, apart)

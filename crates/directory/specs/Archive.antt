@@ -1,15 +1,13 @@
 -- How the bytes of an archive are read: document 02's packed reel (C-11). Its trailer, its directory, the bounds of its records, or the refusal.
-use Rattle.std.specs.Prelude.{ℕ, zero, suc, ◌+◌, ◌-◌, ◌*◌, Bool, true, false, ◌&&◌, List, ltb, leb, eqb, length, take, drop}
+use Rattle.std.specs.Prelude.{ℕ, zero, suc, ◌+◌, ◌-◌, ◌*◌, Bool, true, false, ◌&&◌, List, Option, Some, None, Result, Ok, Err, ltb, leb, eqb, length, take, drop}
 use Rattle.admission.specs.Admitted.{longest_text}
 use Rattle.refusal.specs.Unless.{unless}
+use Rattle.refusal.specs.declared.Refusal.{Refusal}
 use Rattle.refusal.specs.declared.Refusal.TheVariants.{LongText, NoTrailer, FalseDirectory, RecordsApart}
 use Rattle.words.specs.Numbers.{every}
 use Rattle.words.specs.Tables.{letter}
 use Rattle.directory.specs.declared.Bounds.{Bounds}
-use Rattle.directory.specs.declared.BoundsAnswer.{BoundsAnswer}
-use Rattle.directory.specs.declared.BoundsAnswer.TheVariants as answers
-use Rattle.directory.specs.declared.DirectoryAnswer.{DirectoryAnswer}
-use Rattle.directory.specs.declared.DirectoryAnswer.TheVariants.{Read, Refused}
+use Rattle.directory.specs.declared.Directory.{Directory}
 
 -- The number of the four bytes from a place on, little-endian: the lowest first.
 unfoldable pub number_at : List ℕ → ℕ → ℕ
@@ -69,14 +67,14 @@ abbrev pub most_records : ℕ
 most_records = 4096
 
 -- Tests 5, 7, 8 and 9, in that order: the first that fails is the answer.
-unfoldable pub directory_of : List ℕ → DirectoryAnswer
+unfoldable pub directory_of : List ℕ → Result Directory Refusal
 unfolding directory_start record_count closes touch
 directory_of a =
-    unless (leb (length a) longest_text) (Refused LongText)
-    (unless (leb trailer_size (length a) && closes a) (Refused NoTrailer)
-    (unless (leb (record_count a) most_records && eqb (directory_start a + entry_size * record_count a + trailer_size) (length a)) (Refused FalseDirectory)
-    (unless (touch a (directory_start a) (record_count a)) (Refused RecordsApart)
-    (Read record { start = directory_start a; records = record_count a }))))
+    unless (leb (length a) longest_text) (Err LongText)
+    (unless (leb trailer_size (length a) && closes a) (Err NoTrailer)
+    (unless (leb (record_count a) most_records && eqb (directory_start a + entry_size * record_count a + trailer_size) (length a)) (Err FalseDirectory)
+    (unless (touch a (directory_start a) (record_count a)) (Err RecordsApart)
+    (Ok record { start = directory_start a; records = record_count a }))))
 
 -- The bounds of record r, and its bytes.
 unfoldable pub bounds_of : List ℕ → ℕ → Bounds
@@ -87,10 +85,10 @@ unfoldable pub record_of : List ℕ → ℕ → List ℕ
 unfolding directory_start start_of length_of
 record_of a r = take (length_of a (directory_start a) r) (drop (start_of a (directory_start a) r) a)
 
--- Record r, counted from 0, is looked for after the tests.
-unfoldable pub bounds_by : List ℕ → ℕ → BoundsAnswer
+-- Record r, counted from 0, is looked for after the tests. There may be no such record.
+unfoldable pub bounds_by : List ℕ → ℕ → Result (Option Bounds) Refusal
 unfolding directory_of bounds_of
 bounds_by a r = elim (directory_of a) [
-  | Read d ↦ elim (ltb r d.records) [ true ↦ answers.At (bounds_of a r) | false ↦ answers.NoSuchRecord ]
-  | Refused why ↦ answers.Refused why
+  | Ok d ↦ elim (ltb r d.records) [ true ↦ Ok (Some (bounds_of a r)) | false ↦ Ok None ]
+  | Err why ↦ Err why
 ]

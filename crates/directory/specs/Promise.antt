@@ -3,8 +3,6 @@ use Rattle.std.specs.Prelude.{ℕ, ◌+◌, ◌-◌, ◌*◌, ◌≤◌, ◌<◌
 use Rattle.admission.specs.Admitted.{longest_text}
 use Rattle.directory.specs.Archive.{number_at, trailer_size, entry_size, most_records, start_of, end_before, record_of}
 use Rattle.directory.specs.declared.Bounds.{Bounds}
-use Rattle.directory.specs.declared.BoundsAnswer.{BoundsAnswer}
-use Rattle.directory.specs.declared.BoundsAnswer.TheVariants.{At, NoSuchRecord, Refused}
 use Rattle.directory.specs.declared.Directory.{Directory}
 
 -- The bytes a are an archive with the directory d.
@@ -18,12 +16,6 @@ pub record IsArchive (a : List ℕ) (d : Directory) : Type 0 where
   pub exactly : d.start + entry_size * d.records + trailer_size ≡ length a
   pub touching : (r : ℕ) → r < d.records → start_of a d.start r ≡ end_before a d.start r
   pub last : end_before a d.start d.records ≡ d.start
-
--- Where a record is found, its bounds are such.
-abbrev pub IfAt : (Bounds → Type 0) → BoundsAnswer → Type 0
-IfAt P (At b) = P b
-IfAt P NoSuchRecord = Unit {0}
-IfAt P (Refused why) = Unit {0}
 
 -- The bounds b lie in the archive, and the bytes between them are record r.
 pub record Lies (a : List ℕ) (r : ℕ) (b : Bounds) : Type 0 where

@@ -4,10 +4,10 @@
 
 mod read;
 
-ghost use Rattle.std.specs.Prelude.{◌≡◌, ◌↔◌};
+ghost use Rattle.std.specs.Prelude.{◌≡◌, ◌↔◌, IfOk, IfSome};
 ghost use Rattle.directory.specs.declared.Directory.{Directory};
 ghost use Rattle.directory.specs.Archive.{directory_of, bounds_by};
-ghost use Rattle.directory.specs.Promise.{IsArchive, IfAt, Lies};
+ghost use Rattle.directory.specs.Promise.{IsArchive, Lies};
 
 use admission::LONGEST_TEXT;
 use read::{ENTRY, TRAILER};
@@ -23,12 +23,6 @@ pub struct Directory {
     pub records: usize,
 }
 
-#[derive(Clone, Copy)]
-pub enum DirectoryAnswer {
-    Read(Directory),
-    Refused(Refusal),
-}
-
 // A record's bytes are those of the archive from start on and below end.
 #[derive(Clone, Copy)]
 pub struct Bounds {
@@ -36,65 +30,53 @@ pub struct Bounds {
     pub end: usize,
 }
 
-#[derive(Clone, Copy)]
-pub enum BoundsAnswer {
-    At(Bounds),
-    NoSuchRecord,
-    Refused(Refusal),
-}
-
 // Reads an archive's trailer and directory, whatever bytes it is lent. Refused, in this order: more than LONGEST_TEXT bytes (5), fewer than 12
 // bytes or other closing bytes than 52 45 45 4C (7), more than MOST_RECORDS records or a directory that is not exactly the bytes from its start
 // to the trailer (8), records that do not touch from byte 0 to the directory (9).
-pub fn read_directory(archive: &[u8]) -> DirectoryAnswer
+#[tactic(auto, using(crate::proofs::Reading::tests), unfolding(crate::specs::Archive::directory_start, crate::specs::Archive::record_count))]
+pub fn read_directory(archive: &[u8]) -> Result<Directory, Refusal>
     ensures answer { result ≡ directory_of archive.now }
-    ensures meaning { (d : Directory) → (result ≡ DirectoryAnswer.Read d) ↔ IsArchive archive.now d }
+    ensures meaning { (d : Directory) → (result ≡ Ok d) ↔ IsArchive archive.now d }
 {
     let size = archive.len();
     if LONGEST_TEXT < size {
-        return DirectoryAnswer::Refused(Refusal::LongText);
+        return Err(Refusal::LongText);
     }
     if size < TRAILER {
-        return DirectoryAnswer::Refused(Refusal::NoTrailer);
+        return Err(Refusal::NoTrailer);
     }
     if !read::closes(archive) {
-        return DirectoryAnswer::Refused(Refusal::NoTrailer);
+        return Err(Refusal::NoTrailer);
     }
     let start = read::number_at(archive, size - TRAILER);
     let records = read::number_at(archive, size - 8);
     if MOST_RECORDS < records {
-        return DirectoryAnswer::Refused(Refusal::FalseDirectory);
+        return Err(Refusal::FalseDirectory);
     }
     if start + ENTRY * records + TRAILER != size {
-        return DirectoryAnswer::Refused(Refusal::FalseDirectory);
+        return Err(Refusal::FalseDirectory);
     }
-    if read::touch(archive, start, records) {
-        DirectoryAnswer::Read(Directory { start, records })
-    } else {
-        DirectoryAnswer::Refused(Refusal::RecordsApart)
+    if !read::touch(archive, start, records) {
+        return Err(Refusal::RecordsApart);
     }
+    Ok(Directory { start, records })
 }
 
-// The bounds of a record, counted from 0. Refused as by `read_directory`; after that, a record that is not there is told.
-pub fn find_record(archive: &[u8], index: usize) -> BoundsAnswer
+// The bounds of a record, counted from 0, or none where there is no such record. Refused as by `read_directory`.
+#[tactic(auto, using(crate::proofs::Records::missing))]
+pub fn find_record(archive: &[u8], index: usize) -> Result<Option<Bounds>, Refusal>
     ensures answer { result ≡ bounds_by archive.now index }
-    ensures inside { IfAt (Lies archive.now index) result }
+    ensures inside { IfOk result (λ o. IfSome o (Lies archive.now index)) }
 {
-    let answer = read_directory(archive);
-    match answer {
-        DirectoryAnswer::Refused(why) => BoundsAnswer::Refused(why),
-        DirectoryAnswer::Read(directory) => {
-            if index < directory.records {
-                let at = directory.start + ENTRY * index;
-                let start = read::number_at(archive, at);
-                let len = read::number_at(archive, at + 4);
-                BoundsAnswer::At(Bounds {
-                    start,
-                    end: start + len,
-                })
-            } else {
-                BoundsAnswer::NoSuchRecord
-            }
-        }
+    let directory = read_directory(archive)?;
+    if directory.records <= index {
+        return Ok(None);
     }
+    let at = directory.start + ENTRY * index;
+    let start = read::number_at(archive, at);
+    let len = read::number_at(archive, at + 4);
+    Ok(Some(Bounds {
+        start,
+        end: start + len,
+    }))
 }

@@ -10,12 +10,11 @@ fn extend(bytes: &[u8], k: usize, from: usize) -> usize
     requires { (1 ≤ k) × (k ≤ from) × (k ≤ length bytes.now) × (from ≤ hmax bytes.now k) }
     ensures { result ≡ hmax bytes.now k }
 {
-    for i in from..bytes.len() {
-        if bytes[i] != bytes[i - k] {
-            return i;
-        }
+    let mut i = from;
+    while i < bytes.len() && bytes[i] == bytes[i - k] {
+        i += 1;
     }
-    bytes.len()
+    i
 }
 
 // The entries after k that those before them give, where i is the entry of k; answers the first that they do not give. It is i + 1 at the

@@ -1,27 +1,14 @@
--- The printed lines: where they end in a buffer, the positions' lines one by one, and those of a report. Assumes nothing.
-use Prim.Native.Nat.{ℕ, ◌+◌, ◌*◌, ◌≤◌, ◌<◌}
+-- The printed lines: the positions' lines one by one, and those of a report. Assumes nothing.
+use Prim.Native.Nat.{ℕ, ◌+◌, ◌<◌}
 use mathlib.Core.Path.{◌≡◌, refl, sym, ap, ◌∙◌}
 use mathlib.Core.List.{List, [], ◌∷◌, ◌++◌, append_assoc, append-nil}
 use native.Mathlib.Numerals.{add-one}
-use native.Mathlib.Omega.{arith}
-use lib.ListN.{length, get_or, take, length-append, length-take}
+use lib.ListN.{length, get_or, take}
 use lib.Seq.{take-suc}
 use Rattle.rules.specs.declared.Ending.{Ending}
 use Rattle.charge.specs.Charged.{charged}
 use Rattle.job.specs.Text.{ascii, decimal}
 use Rattle.job.specs.Printed.{line, ending_line, position_lines, report_lines}
-use Rattle.job.specs.Internal.Writing.{Puts}
-use Rattle.job.proofs.Decimals.{length_decimal}
-
--- ---- A line
-
-length_line : (word : List ℕ) (n : ℕ) → length (word ++ (decimal n ++ ascii "\n")) ≤ length word + 21
-unfolding ascii
-length_line word n = simp length-append (omega (arith, length_decimal n))
-
-pub line_ends : {before after : List ℕ} {at r : ℕ} (word : List ℕ) (n : ℕ)
-    → Puts before after at (word ++ (decimal n ++ ascii "\n")) r → r ≤ at + length word + 21
-line_ends word n P = omega (arith, P.place, length_line word n)
 
 -- ---- The positions' lines
 
@@ -36,15 +23,6 @@ lines_more (q ∷ ps) p =
 pub next_position : (ps : List ℕ) (k : ℕ) → k < length ps
     → position_lines (take (k + 1) ps) ≡ position_lines (take k ps) ++ (decimal (get_or ps k 0) ++ ascii "\n")
 next_position ps k h = rw (add-one k, take-suc ps k 0 h) (lines_more (take k ps) (get_or ps k 0))
-
-length_lines : (ps : List ℕ) → length (position_lines ps) ≤ 21 * length ps
-unfolding position_lines
-length_lines [] = omega arith
-length_lines (p ∷ ps) = omega (arith, length-append (decimal p ++ ascii "\n") (position_lines ps), length_line [] p, length_lines ps)
-
-pub positions_end : {before after : List ℕ} {at r : ℕ} (ps : List ℕ) (k : ℕ)
-    → Puts before after at (position_lines (take k ps)) r → r ≤ at + 21 * k
-positions_end ps k P = omega (arith, P.place, length_lines (take k ps), length-take k ps)
 
 -- ---- A report
 

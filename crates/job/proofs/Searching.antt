@@ -1,95 +1,117 @@
--- The search for bytes that were just prepared is never refused, and its list begins with what it found. Assumes nothing.
+-- An input that is accepted is searched, and the list begins with what was found. Assumes nothing.
 use Prim.Native.Nat.{ℕ, ◌≤◌}
 use mathlib.Core.Path.{◌≡◌, refl, sym, ap, ◌∙◌}
 use mathlib.Core.List.{List}
 use native.Mathlib.Omega.{arith}
-use lib.ListN.{length, take, drop, length-append}
+use lib.ListN.{length, drop, length-append}
 use lib.Seq.{take-append_seam}
-use Rattle.admission.specs.Admitted.{longest_text, admitted}
-use Rattle.admission.specs.declared.Admission.TheVariants.{Admitted}
+use Rattle.std.specs.Prelude.{Result, Ok, Err}
+use Rattle.admission.specs.Admitted.{longest_text as longest_searched, admitted}
 use Rattle.admission.proofs.Admitting.{admitted_of}
 use Rattle.classes.specs.Classes.{identity}
 use Rattle.intake.specs.Sizes.{scratch_size}
 use Rattle.intake.specs.Outcomes.{Preparable}
 use Rattle.intake.proofs.Outcomes.{identity_usable, ready_of}
+use Rattle.input.specs.Parsed.{pattern_in, text_in, parsed, Accepted}
+use Rattle.input.proofs.Cut.{pattern_cut, text_cut, pattern_cut_lem, text_cut_lem}
 use Rattle.pattern.specs.Letters.{own_bytes, word_of}
-use Rattle.pattern.specs.Built.{pattern_of}
+use Rattle.pattern.specs.Built.{pattern_of, built, built_with}
+use Rattle.pattern.specs.declared.Built.{Built}
 use Rattle.pattern.specs.declared.Pattern.{Pattern}
+use Rattle.pattern.proofs.Letters.{word_plain, text_plain}
 use Rattle.preparation.specs.Prepared.{prepared}
-use Rattle.preparation.specs.declared.Prepared.{Prepared}
-use Rattle.refusal.specs.declared.Refusal.{Refusal}
 use Rattle.preparation.proofs.Answers.{ready_answer}
 use Rattle.checked.proofs.Again.{own_bytes_lem, prepared_again_lem}
 use Rattle.checked.proofs.Checked.{own_classes, is_prepared_lem}
-use Rattle.pattern.proofs.Letters.{word_plain, text_plain}
-use Rattle.rules.specs.Rules.{End}
+use Rattle.refusal.specs.Tests.{passed}
+use Rattle.refusal.specs.declared.Refusal.{Refusal}
+use Rattle.rules.specs.Rules.{End, no_cap}
 use Rattle.rules.specs.Colussi.{colussi}
 use Rattle.rules.specs.Report.{report_of, filled}
 use Rattle.rules.specs.declared.Report.{Report}
 use Rattle.search.specs.Answer.{answer_by, list_by}
-use Rattle.search.specs.declared.SearchAnswer.{SearchAnswer}
-use Rattle.search.specs.declared.SearchAnswer.TheVariants.{Ran, Refused}
 use Rattle.search.proofs.Answers.{ran_answer, ran_list}
-use Rattle.job.specs.Printed.{report_lines, search_lines}
+use Rattle.job.specs.Limits.{list_size}
+use Rattle.job.specs.Printed.{refused_line, report_lines, search_lines, printed}
+use Rattle.job.specs.Internal.Searching.{Tells}
 
--- ---- A search that ran
-
--- A report is that of a search for w, and a list begins with the positions found.
-pub record Found (w : List ℕ) (s : End) (r : Report) (list : List ℕ) : Type 0 where
-  pub report : r ≡ report_of w s
-  pub inside : r.written ≤ length list
-  pub positions : take r.written list ≡ s.last.found
-
-found_filled : (w : List ℕ) (s : End) (lent : List ℕ) → Found w s (report_of w s) (filled s lent)
-unfolding report_of filled
-found_filled w s lent =
-    let found : List ℕ = s.last.found in
-    let rest : List ℕ = drop (length found) lent in
-    record { report = refl; inside = omega (arith, length-append found rest); positions = take-append_seam found rest }
-
-module _ (w : List ℕ) (s : End) {a : SearchAnswer} (answered : a ≡ Ran (report_of w s)) where
-  pub found : {r : Report} (lent : List ℕ) {after : List ℕ} → after ≡ filled s lent → a ≡ Ran r → Found w s r after
-  found {r = r} lent f e = let same : r ≡ report_of w s = cc in rw (same, f) (found_filled w s lent)
-
-  pub not_refused : {why : Refusal} → a ≡ Refused why → ⊥
-  not_refused e = let z : ◌≡◌ {A = ℕ} 0 1 = cc in omega arith
-
--- ---- Its lines
+-- ---- The lines of a search
 
 lines_of_search : (s : End) → search_lines s ≡ report_lines s.ending (length s.last.made) s.last.found
 unfolding search_lines
 lines_of_search s = refl
 
-pub lines_of_found : {w : List ℕ} {s : End} {r : Report} {list : List ℕ} → Found w s r list
-    → report_lines r.ending r.count (take r.written list) ≡ search_lines s
-unfolding report_of
-lines_of_found {s = s} F = rw (F.positions, F.report) (sym (lines_of_search s))
+-- A search for w tells what is printed, if that is its lines.
+tells_lines : (input w lent : List ℕ) (s : End) → printed input ≡ search_lines s → Tells input (filled s lent) (Ok (report_of w s))
+unfolding report_of filled
+tells_lines input w lent s lines =
+    let found : List ℕ = s.last.found in
+    let rest : List ℕ = drop (length found) lent in
+    (omega (arith, length-append found rest), rw (take-append_seam found rest) (lines ∙ lines_of_search s))
 
--- ---- The search for bytes that were just prepared
+-- ---- A pattern that preparation takes
 
-module _ (w t : List ℕ) (preparable : Preparable w) (fits : length t ≤ longest_text)
-    {q : Prepared} (ready_made : q ≡ prepared w identity scratch_size) (cap : ℕ) (lent : List ℕ) where
-  pattern_is : q.pattern ≡ pattern_of w identity
-  pattern_is =
-      ap (λ (a : Prepared). a.pattern)
-      (ready_made ∙ ready_answer w identity scratch_size (ready_of w identity scratch_size preparable identity_usable (omega arith)))
+module _ (w : List ℕ) (preparable : Preparable w) where
+  built_is : prepared w identity scratch_size ≡ Ok (built w identity)
+  built_is = ready_answer w identity scratch_size (ready_of w identity scratch_size preparable identity_usable (omega arith))
 
-  -- Its letters are the bytes, and the text's are the text.
-  classes : q.pattern.classes ≡ identity
-  classes = ap (λ (p : Pattern). p.classes) pattern_is ∙ own_classes w identity
+  pub not_refused : {why : Refusal} → Err why ≡ prepared w identity scratch_size → ⊥
+  not_refused e = let z : Err _ ≡ Ok (built w identity) = e ∙ built_is in cc
 
-  letters : word_of q.pattern ≡ w
-  letters = word_plain q.pattern classes ∙ ap own_bytes pattern_is ∙ own_bytes_lem w identity
+  pattern_is : {b : Built} → Ok b ≡ prepared w identity scratch_size → b.pattern ≡ pattern_of w identity
+  unfolding built built_with pattern_of
+  pattern_is {b = b} e = let z : b ≡ built w identity = (let q : Ok b ≡ Ok (built w identity) = e ∙ built_is in cc) in ap (λ (a : Built). a.pattern) z
 
-  let_in : admitted q.pattern (length t) ≡ Admitted
-  let_in = admitted_of q.pattern (length t)
-      record { prepared = (is_prepared_lem q.pattern).0 (rw pattern_is (prepared_again_lem w identity preparable identity_usable)); fits = fits }
+  module _ {b : Built} (e : Ok b ≡ prepared w identity scratch_size) (t : List ℕ) (fits : length t ≤ longest_searched) where
+    -- Its letters are the bytes, and the text's are the text.
+    classes : b.pattern.classes ≡ identity
+    classes = ap (λ (p : Pattern). p.classes) (pattern_is e) ∙ own_classes w identity
 
-  -- What it answers, and what it leaves in the list.
-  pub prepared_runs : {a : SearchAnswer} {after : List ℕ}
-      → a ≡ answer_by colussi q.pattern t cap (length lent) → after ≡ list_by colussi q.pattern t cap lent
-      → (a ≡ Ran (report_of w (colussi w t cap (length lent)))) × (after ≡ filled (colussi w t cap (length lent)) lent)
-  prepared_runs e l = (
-    e ∙ rw (letters, text_plain q.pattern classes t) at (ran_answer colussi q.pattern t cap lent let_in),
-    l ∙ rw (letters, text_plain q.pattern classes t) at (ran_list colussi q.pattern t cap lent let_in),
-  )
+    letters : word_of b.pattern ≡ w
+    letters = word_plain b.pattern classes ∙ ap own_bytes (pattern_is e) ∙ own_bytes_lem w identity
+
+    let_in : admitted b.pattern (length t) ≡ passed
+    let_in = admitted_of b.pattern (length t)
+        record { prepared = (is_prepared_lem b.pattern).0 (rw (pattern_is e) (prepared_again_lem w identity preparable identity_usable)); fits = fits }
+
+    -- What a search for it answers, and what it leaves in the list.
+    runs : (cap : ℕ) (lent : List ℕ)
+        → (answer_by colussi b.pattern t cap (length lent) ≡ Ok (report_of w (colussi w t cap (length lent))))
+        × (list_by colussi b.pattern t cap lent ≡ filled (colussi w t cap (length lent)) lent)
+    runs cap lent = (
+      rw (letters, text_plain b.pattern classes t) at (ran_answer colussi b.pattern t cap lent let_in),
+      rw (letters, text_plain b.pattern classes t) at (ran_list colussi b.pattern t cap lent let_in),
+    )
+
+-- ---- An input
+
+module _ (input : List ℕ) where
+  pub refuses : {why : Refusal} → Err why ≡ parsed input → printed input ≡ refused_line why
+  unfolding printed
+  refuses e = rw (sym e, printed) refl
+
+  module _ {len : ℕ} (accepted : Accepted input len) where
+    -- Preparation takes its pattern.
+    pub may_prepare : Preparable (pattern_cut input len)
+    may_prepare = rw (pattern_cut_lem input len accepted.first) accepted.preparable
+
+    fits : length (text_cut input len) ≤ longest_searched
+    fits = omega (arith, ap length (text_cut_lem input len accepted.first), accepted.fits)
+
+    searches_parts : Ok len ≡ parsed input → printed input ≡ search_lines (colussi (pattern_in input) (text_in input) no_cap list_size)
+    unfolding printed
+    searches_parts e = rw (sym e, printed) refl
+
+    searches : Ok len ≡ parsed input → printed input ≡ search_lines (colussi (pattern_cut input len) (text_cut input len) no_cap list_size)
+    searches e = rw (pattern_cut_lem input len accepted.first, text_cut_lem input len accepted.first) (searches_parts e)
+
+    -- What the search for the pattern just prepared answers in its text, with a list of list_size entries, tells what is printed.
+    pub tells : Ok len ≡ parsed input → {b : Built} → Ok b ≡ prepared (pattern_cut input len) identity scratch_size
+        → (lent : List ℕ) → length lent ≡ list_size → {r : Result Report Refusal} {after : List ℕ}
+        → r ≡ answer_by colussi b.pattern (text_cut input len) no_cap (length lent)
+        → after ≡ list_by colussi b.pattern (text_cut input len) no_cap lent → Tells input after r
+    tells e ready lent size answer list =
+        let w = pattern_cut input len in
+        let t = text_cut input len in
+        let R = runs w may_prepare ready t fits no_cap lent in
+        rw (answer ∙ R.0, list ∙ R.1) (tells_lines input w lent (colussi w t no_cap (length lent)) (rw size (searches e)))

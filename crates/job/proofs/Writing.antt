@@ -1,13 +1,13 @@
 -- Bytes put into a buffer one after the other. Assumes nothing.
-use Prim.Native.Nat.{ℕ, ◌+◌, ◌≤◌, ◌<◌}
+use Prim.Native.Nat.{ℕ, ◌+◌, ◌≤◌}
 use mathlib.Core.Path.{◌≡◌, refl, sym, ap, ◌∙◌}
-use mathlib.Core.List.{List, [], ◌∷◌, ◌++◌, append_assoc}
+use mathlib.Core.List.{List, [], ◌++◌, append_assoc}
 use native.Mathlib.Nat.{add-zero}
-use native.Mathlib.Numerals.{add-one}
 use native.Mathlib.Omega.{arith}
-use lib.ListN.{length, get_or, take, drop, set, length-append, length-drop, take-append-drop}
-use lib.Seq.{length-take-le, take_at, drop_at, drop-drop, take-suc, set_split}
-use Rattle.job.specs.Internal.Writing.{Puts}
+use lib.ListN.{length, take, drop, length-append, length-drop, take-append-drop}
+use lib.Seq.{length-take-le, take_at, drop_at, drop-drop}
+use Rattle.job.specs.Internal.Writing.{Puts, Writes}
+use Rattle.job.specs.declared.lines.Lines.{Lines}
 
 -- ---- What a buffer holds once bytes are put into it
 
@@ -31,21 +31,14 @@ module _ {before after : List ℕ} {at : ℕ} {s : List ℕ} {r : ℕ} (P : Puts
 
 -- ---- One after the other
 
-pub puts_nothing : (l : List ℕ) (at : ℕ) → at ≤ length l → Puts l l at [] at
+puts_nothing : (l : List ℕ) (at : ℕ) → at ≤ length l → Puts l l at [] at
 puts_nothing l at h = record {
   bytes = rw (add-zero at) (sym (take-append-drop at l));
   place = sym (add-zero at);
   inside = h;
 }
 
-puts_byte : (l : List ℕ) (at v : ℕ) → at < length l → Puts l (set l at v) at (v ∷ []) (at + 1)
-puts_byte l at v h = record {
-  bytes = rw (add-one at) (set_split l at v h);
-  place = refl;
-  inside = omega arith;
-}
-
-pub puts_more : {x y z : List ℕ} {at : ℕ} {s t : List ℕ} {r q : ℕ} → Puts x y at s r → Puts y z r t q → Puts x z at (s ++ t) q
+puts_more : {x y z : List ℕ} {at : ℕ} {s t : List ℕ} {r q : ℕ} → Puts x y at s r → Puts y z r t q → Puts x z at (s ++ t) q
 puts_more {x} {y} {z} {at} {s} {t} {r} {q} P Q = record {
   bytes = Q.bytes ∙ rw (front P, rest, length-append s t) joined;
   place = omega (arith, P.place, Q.place, length-append s t);
@@ -58,9 +51,8 @@ puts_more {x} {y} {z} {at} {s} {t} {r} {q} P Q = record {
     joined : (take at x ++ s) ++ (t ++ drop (r + length t) x) ≡ take at x ++ ((s ++ t) ++ drop (at + (length s + length t)) x)
     joined = let e : at + (length s + length t) ≡ r + length t = omega (arith, P.place) in rw e (simp append_assoc)
 
--- One byte more of those that are put.
-pub puts_next : {x y : List ℕ} {at : ℕ} (bytes : List ℕ) (i : ℕ) → Puts x y at (take i bytes) (at + i) → i < length bytes → at + i < length x
-    → Puts x (set y (at + i) (get_or bytes i 0)) at (take (i + 1) bytes) (at + (i + 1))
-puts_next {y = y} {at = at} bytes i P h room =
-    let e : at + (i + 1) ≡ at + i + 1 = omega arith in
-    rw (add-one i, take-suc bytes i 0 h, ← add-one i, e) (puts_more P (puts_byte y (at + i) (get_or bytes i 0) (omega (arith, length_kept P))))
+pub writes_nothing : (l : Lines) → l.len ≤ length l.out.now → Writes l l []
+writes_nothing l h = record { puts = puts_nothing l.out.now l.len h; same_buffer = refl }
+
+pub writes_more : {x y z : Lines} {s t : List ℕ} → Writes x y s → Writes y z t → Writes x z (s ++ t)
+writes_more P Q = record { puts = puts_more P.puts Q.puts; same_buffer = Q.same_buffer ∙ P.same_buffer }

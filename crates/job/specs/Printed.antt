@@ -1,5 +1,5 @@
 -- What the program prints for an input, as document 01 gives it ("The program").
-use Rattle.std.specs.Prelude.{ℕ, List, [], ◌∷◌, ◌++◌, length}
+use Rattle.std.specs.Prelude.{ℕ, List, [], ◌∷◌, ◌++◌, length, Ok, Err}
 use Prim.Native.String.{String}
 use Rattle.refusal.specs.Numbers.{number_of}
 use Rattle.refusal.specs.declared.Refusal.{Refusal}
@@ -9,7 +9,6 @@ use Rattle.rules.specs.declared.Ending.{Ending}
 use Rattle.rules.specs.declared.Ending.TheVariants.{Done, Spent, Full}
 use Rattle.charge.specs.Charged.{charged}
 use Rattle.input.specs.Parsed.{pattern_in, text_in, parsed}
-use Rattle.input.specs.declared.Parsed.TheVariants.{Parts, Refused}
 use Rattle.job.specs.Limits.{list_size}
 use Rattle.job.specs.Text.{ascii, decimal}
 
@@ -48,6 +47,6 @@ search_lines s = report_lines s.ending (length s.last.made) s.last.found
 unfoldable pub printed : List ℕ → List ℕ
 unfolding parsed refused_line search_lines colussi
 printed input = elim (parsed input) [
-  | Parts len ↦ search_lines (colussi (pattern_in input) (text_in input) no_cap list_size)
-  | Refused why ↦ refused_line why
+  | Ok len ↦ search_lines (colussi (pattern_in input) (text_in input) no_cap list_size)
+  | Err why ↦ refused_line why
 ]

@@ -1,15 +1,24 @@
 -- The loops: what each has found and written on its way. Assumes nothing.
 use Prim.Native.Nat.{ℕ, ◌+◌, ◌-◌, ◌≤◌, ◌<◌, min}
-use mathlib.Core.Path.{◌≡◌, refl, ◌∙◌}
-use mathlib.Core.Logic.{⊎_elim}
+use mathlib.Core.Path.{◌≡◌, refl, ap, ◌∙◌}
+use mathlib.Core.Logic.{◌⊎◌, ⊎_elim, inl, inr}
+use mir.Val.{bool_byte}
+use lib.Dec.{ltb}
+use borrow.Author.Tests.{lt-ltb, le-ltb}
 use mathlib.Core.List.{List}
 use native.Mathlib.Omega.{arith}
 use lib.ListN.{length, get_or, set, length-set}
 use lib.Seq.{get_or-set_same, get_or-set_other, drop-set-lt}
 use Rattle.words.specs.Tables.{letter}
 use Rattle.words.proofs.Cases.{less_or}
-use Rattle.lengths.specs.Internal.Steps.{Writes, Passes, Extends, LeavesBy}
+use Rattle.classes.proofs.Through.{length_through}
+use Rattle.lengths.specs.Internal.Steps.{letters_of, Writes, Passes, LeavesBy}
+use Rattle.lengths.specs.declared.steps.Text.{Text}
 use Rattle.lengths.proofs.Writing.{writes_none, writes_one}
+
+-- A text has as many letters as bytes.
+pub length_letters : (text : Text) → length (letters_of text) ≡ length text.bytes.now
+length_letters text = length_through text.classes.now text.bytes.now
 
 -- What holds of the numbers from a on and below k, and of k, holds of those below k + 1.
 one_more : (P : ℕ → Type 0) (a k : ℕ) → ((p : ℕ) → a ≤ p → p < k → P p) → P k → (p : ℕ) → a ≤ p → p < k + 1 → P p
@@ -45,28 +54,12 @@ module _ (t : List ℕ) (x : ℕ) (before : List ℕ) (b : ℕ) where
     pub passed_all : (r < length t → x ≡ letter t r) → Passes t x before s b r
     passed_all found = record { from = P.from; upto = P.upto; missed = P.missed; found = found; zeros = P.zeros }
 
--- ---- A window's letters
-
-module _ (w t : List ℕ) (b from end : ℕ) where
-  -- Those from the first place on and below r agree.
-  pub record Agreed (r : ℕ) : Type 0 where
-    pub start : from ≤ r
-    pub upto : r ≤ end
-    pub same : (p : ℕ) → from ≤ p → p < r → letter w p ≡ letter t (b + p)
-
-  pub agreed_none : from ≤ end → Agreed from
-  agreed_none l = record { start = omega arith; upto = l; same = λ p a h. absurd (omega arith) }
-
-  module _ {r : ℕ} (A : Agreed r) where
-    pub agreed_one : r < end → letter w r ≡ letter t (b + r) → Agreed (r + 1)
-    agreed_one l e = record {
-      start = omega (arith, A.start);
-      upto = omega arith;
-      same = one_more (λ p. letter w p ≡ letter t (b + p)) from r A.same e;
-    }
-
-    pub agreed_all : (r < end → letter w r ≡ letter t (b + r) → ⊥) → Extends w t b from end r
-    agreed_all ends = record { from = A.start; upto = A.upto; same = A.same; ends = ends }
+-- The first that begins with x has that letter matched, and the text's end nothing.
+pub matched_there : (w n : ℕ) {m : ℕ} → w ≤ n → m ≡ bool_byte (ltb w n) → ((w < n) × (m ≡ 1)) ⊎ ((w ≡ n) × (m ≡ 0))
+matched_there w n upto is = ⊎_elim
+    (λ (l : w < n). inl (l, is ∙ ap bool_byte (lt-ltb w n l)))
+    (λ (l : n ≤ w). inr (omega arith, is ∙ ap bool_byte (le-ltb w n l)))
+    (less_or w n)
 
 -- ---- A window left
 

@@ -1,22 +1,23 @@
 -- What `prefix_lengths` answers in each case, and its promises as laws of its answer. Assumes nothing.
 use Prim.Native.Nat.{ℕ, ◌+◌, ◌≤◌, ◌<◌}
-use mathlib.Core.Path.{◌≡◌, refl, sym, ◌∙◌, subst}
+use mathlib.Core.Path.{◌≡◌, refl, sym, ap, ◌∙◌, subst}
 use mathlib.Core.Logic.{◌↔◌, ⊎_elim}
 use mathlib.Core.List.{List}
 use native.Mathlib.Omega.{arith}
 use lib.ListN.{length, get_or}
-use borrow.Author.Tests.{le-leb, lt-leb}
+use borrow.Author.Tests.{leb-true}
 use Rattle.words.proofs.Cases.{less_or}
-use Rattle.admission.specs.Admitted.{admitted, IsAdmitted}
-use Rattle.admission.specs.declared.Admission.{Admission}
-use Rattle.admission.specs.declared.Admission.TheVariants as door
-use Rattle.admission.proofs.Admitting.{admitted_is}
+use Rattle.admission.specs.Admitted.{judged, admitted, also_judged, IsAdmitted}
+use Rattle.admission.proofs.Admitting.{at_the_door, admitted_is, passes_all}
 use Rattle.checked.proofs.Reading.{fields_of}
 use Rattle.classes.specs.Classes.{through, identity, OccursBy}
 use Rattle.classes.proofs.Through.{length_through, through_at}
 use Rattle.pattern.specs.Letters.{own_bytes, word_of, text_of}
 use Rattle.pattern.specs.declared.Pattern.{Pattern}
 use Rattle.pattern.proofs.Letters.{length_text, word_through, text_through, word_plain, text_plain}
+use Rattle.checked.specs.Check.{is_prepared}
+use Rattle.std.specs.Prelude.{Bool, true, false, leb, Result, Ok, Err, IfOk}
+use Rattle.refusal.specs.Tests.{Tested, passed}
 use Rattle.refusal.specs.declared.Refusal.{Refusal}
 use Rattle.refusal.specs.declared.Refusal.TheVariants.{ShortLengths}
 use Rattle.rules.specs.Occurs.{Occurs, occurrences}
@@ -29,9 +30,7 @@ use Rattle.prefixes.proofs.Entries.{longest_is, whole_occurs, lengths_at}
 use Rattle.prefixes.proofs.Standing.{carried_few}
 use Rattle.prefixes.proofs.AsKmp.{as_kmp}
 use Rattle.lengths.specs.Answer.{answered, listed, answer_of, list_of, plain_answer_of, plain_list_of}
-use Rattle.lengths.specs.Promise.{IfCounted, LongestBy, EachLongest, WholeWhere}
-use Rattle.lengths.specs.declared.LengthsAnswer.{LengthsAnswer}
-use Rattle.lengths.specs.declared.LengthsAnswer.TheVariants.{Counted, Refused}
+use Rattle.lengths.specs.Promise.{LongestBy, EachLongest, WholeWhere}
 
 -- ---- Of letters, in terms of bytes
 
@@ -77,55 +76,76 @@ module _ (c w t lent : List ℕ) where
       rw (lengths_at letters text lent x (omega arith), ← length_through c w)
       (λ e. F.all x tt (W.0 e), λ i. W.1 (subst (Occurs letters text) i.2 (F.occur i.0 i.1)))
 
+-- ---- In each case
+
+-- Who does not pass a test is refused,
+refused_is : (a : Tested) (w t : List ℕ) (size : ℕ) (passes : Bool) {why : Refusal} → leb (length t) size ≡ passes
+    → also_judged a passes ShortLengths ≡ Err why → answered a w t size ≡ Err why
+unfolding answered also_judged
+refused_is (Ok tt) w t size true e is = cc
+refused_is (Ok tt) w t size false e is = rw e (cc)
+refused_is (Err first) w t size passes e is = cc
+
+-- and who passes all gets the count.
+counted_is : (a : Tested) (w t : List ℕ) (size : ℕ) → also_judged a (leb (length t) size) ShortLengths ≡ passed
+    → answered a w t size ≡ Ok (comparisons w t)
+unfolding answered
+counted_is a w t size e = let h = passes_all a (leb (length t) size) ShortLengths e in rw (h.0, h.1, answered) refl
+
 module _ (p : Pattern) (t lent : List ℕ) where
   -- The answer r, and the list afterwards.
-  pub record Answers (r : LengthsAnswer) (after : List ℕ) : Type 0 where
+  pub record Answers (r : Result ℕ Refusal) (after : List ℕ) : Type 0 where
     pub answer : r ≡ answer_of p t (length lent)
     pub list : after ≡ list_of p t lent
 
-  -- ---- In each case
+  -- What the tests come to.
+  abbrev pub tested : Tested
+  tested = also_judged (admitted p (length t)) (leb (length t) (length lent)) ShortLengths
 
-  answers : {r : LengthsAnswer} {after : List ℕ} → answer_of p t (length lent) ≡ r → listed r (word_of p) (text_of p t) lent ≡ after → Answers r after
+  -- They are told what `is_prepared` answers.
+  pub at_the_tests : {a : Tested} {r : Bool} → a ≡ judged r (length t) → r ≡ is_prepared p → {b : Tested}
+      → b ≡ also_judged a (leb (length t) (length lent)) ShortLengths → tested ≡ b
+  at_the_tests e q is = ap (λ a. also_judged a (leb (length t) (length lent)) ShortLengths) (at_the_door p (length t) e q) ∙ sym is
+
+  pub tested_is : tested ≡ passed → IsAdmitted p (length t) × (length t ≤ length lent)
+  tested_is e =
+      let h = passes_all (admitted p (length t)) (leb (length t) (length lent)) ShortLengths e in
+      (admitted_is p (length t) h.0, leb-true _ _ h.1)
+
+  answers : {r : Result ℕ Refusal} {after : List ℕ} → answer_of p t (length lent) ≡ r → listed r (word_of p) (text_of p t) lent ≡ after
+      → Answers r after
   unfolding list_of
   answers e f = record { answer = sym e; list = sym f ∙ rw (e, list_of) refl }
 
   -- A refusal leaves the list as it was lent.
-  pub refused : {why : Refusal} → admitted p (length t) ≡ door.Refused why → Answers (Refused why) lent
-  unfolding answer_of answered listed
-  refused e = answers (rw (e, answer_of) refl) refl
+  pub refused : {why : Refusal} → tested ≡ Err why → Answers (Err why) lent
+  unfolding answer_of listed
+  refused e = answers (refused_is (admitted p (length t)) (word_of p) (text_of p t) (length lent) _ refl (rw (length_text p t) e)) refl
 
-  module _ (e : admitted p (length t) ≡ door.Admitted) where
-    pub too_short : length lent < length t → Answers (Refused ShortLengths) lent
-    unfolding answer_of answered listed
-    too_short l = answers (rw (e, length_text p t, lt-leb (length t) (length lent) l, answer_of) refl) refl
-
-    -- A scan of the text for the letters of the bytes.
-    pub counted : length t ≤ length lent → {count : ℕ} {after : List ℕ} → count ≡ comparisons (through p.classes (own_bytes p)) (through p.classes t)
-        → after ≡ lengths_in (through p.classes (own_bytes p)) (through p.classes t) lent → Answers (Counted count) after
-    unfolding answer_of answered listed word_of text_of
-    counted l count after =
-        rw (count, after) (answers (rw (e, length_through p.classes t, le-leb (length t) (length lent) l, answer_of) refl) refl)
+  -- And a scan of the text writes it.
+  pub counted : tested ≡ passed → {count : ℕ} {after : List ℕ} → count ≡ comparisons (word_of p) (text_of p t)
+      → after ≡ lengths_in (word_of p) (text_of p t) lent → Answers (Ok count) after
+  unfolding answer_of listed
+  counted e count after =
+      rw (count, after) (answers (counted_is (admitted p (length t)) (word_of p) (text_of p t) (length lent) (rw (length_text p t) e)) refl)
 
   -- ---- The promises
 
   -- What holds of the scans, and of every refusal, holds of the answer.
-  promised : (P : List ℕ → ℕ → Type 0) → (IsAdmitted p (length t) → P (lengths_in (word_of p) (text_of p t) lent) (comparisons (word_of p) (text_of p t)))
-      → {r : LengthsAnswer} {after : List ℕ} → Answers r after → IfCounted (P after) r
-  promised P holds A = rw (A.answer, A.list) (at (admitted p (length t)) refl)
+  promised : (P : List ℕ → ℕ → Type 0)
+      → (IsAdmitted p (length t) → P (lengths_in (word_of p) (text_of p t) lent) (comparisons (word_of p) (text_of p t)))
+      → {r : Result ℕ Refusal} {after : List ℕ} → Answers r after → IfOk r (P after)
+  promised P holds A = rw (A.answer, A.list) (at tested refl)
     where
-      from : {r : LengthsAnswer} {after : List ℕ} → Answers r after → IfCounted (P after) r → IfCounted (P (list_of p t lent)) (answer_of p t (length lent))
+      from : {r : Result ℕ Refusal} {after : List ℕ} → Answers r after → IfOk r (P after) → IfOk (answer_of p t (length lent)) (P (list_of p t lent))
       from B h = rw (← B.answer, ← B.list) h
 
-      at : (a : Admission) → admitted p (length t) ≡ a → IfCounted (P (list_of p t lent)) (answer_of p t (length lent))
-      at door.Admitted e = ⊎_elim
-          (λ (l : length lent < length t). from (too_short e l) tt)
-          (λ (l : length t ≤ length lent). from (counted e l refl refl)
-          (rw (word_through p, text_through p t) at (holds (admitted_is p (length t) e))))
-          (less_or (length lent) (length t))
-      at (door.Refused why) e = from (refused e) tt
+      at : (a : Tested) → tested ≡ a → IfOk (answer_of p t (length lent)) (P (list_of p t lent))
+      at (Ok tt) e = from (counted e refl refl) (holds (tested_is e).0)
+      at (Err why) e = from (refused e) tt
 
   -- Through the classes that give each value itself, it is the same of the bytes.
-  plain : p.classes ≡ identity → {r : LengthsAnswer} {after : List ℕ} → Answers r after
+  plain : p.classes ≡ identity → {r : Result ℕ Refusal} {after : List ℕ} → Answers r after
       → (r ≡ plain_answer_of p t (length lent)) × (after ≡ plain_list_of p t lent)
   unfolding answer_of list_of plain_answer_of plain_list_of
   plain e A = (A.answer ∙ rw (word_plain p e, text_plain p e t) refl, A.list ∙ rw (word_plain p e, text_plain p e t) refl)
@@ -134,34 +154,26 @@ module _ (p : Pattern) (t lent : List ℕ) where
   some_letter I = let F = fields_of p I.prepared in omega (arith, F.some, F.word)
 
   -- What `prefix_lengths` ensures of its answer and its list.
-  pub promises : {r : LengthsAnswer} {after : List ℕ} → Answers r after
-      → (r ≡ answer_of p t (length lent)) × ((after ≡ list_of p t lent)
-      × (IfCounted (λ count. EachLongest p.classes (own_bytes p) t after) r
-      × (IfCounted (λ count. WholeWhere p.classes (own_bytes p) t (occurrences (word_of p) (text_of p t)) after) r
-      × (IfCounted (FewFor (length t)) r × (IfCounted (λ count. AsKmp (word_of p) (text_of p t)) r
-      × (p.classes ≡ identity → (r ≡ plain_answer_of p t (length lent)) × (after ≡ plain_list_of p t lent)))))))
-  promises A = (
-    A.answer,
-    (
-      A.list,
-      (
-        promised (λ after count. EachLongest p.classes (own_bytes p) t after)
-            (λ I. rw (word_through p, text_through p t) (each_longest p.classes (own_bytes p) t lent)) A,
-        (
-          promised (λ after count. WholeWhere p.classes (own_bytes p) t (occurrences (word_of p) (text_of p t)) after)
-              (λ I. rw (word_through p, text_through p t) record {
-                occurs = whole_occurs_by p.classes (own_bytes p) t lent;
-                stands = whole_listed p.classes (own_bytes p) t lent;
-              }) A,
-          (
-            promised (λ after. FewFor (length t))
-                (λ I. rw (length_text p t) at (carried_few (word_of p) (text_of p t) (some_letter I))) A,
-            (
-              promised (λ after count. AsKmp (word_of p) (text_of p t)) (λ I. as_kmp (word_of p) (text_of p t) (some_letter I)) A,
-              λ e. plain e A,
-            ),
-          ),
-        ),
-      ),
-    ),
-  )
+  pub promises : {r : Result ℕ Refusal} {after : List ℕ} → Answers r after → record {
+    answer : r ≡ answer_of p t (length lent);
+    list : after ≡ list_of p t lent;
+    longest : IfOk r (λ count. EachLongest p.classes (own_bytes p) t after);
+    whole : IfOk r (λ count. WholeWhere p.classes (own_bytes p) t (occurrences (word_of p) (text_of p t)) after);
+    ceiling : IfOk r (FewFor (length t));
+    kmp : IfOk r (λ count. AsKmp (word_of p) (text_of p t));
+    plain : p.classes ≡ identity → (r ≡ plain_answer_of p t (length lent)) × (after ≡ plain_list_of p t lent);
+  }
+  promises A = record {
+    answer = A.answer;
+    list = A.list;
+    longest = promised (λ after count. EachLongest p.classes (own_bytes p) t after)
+        (λ I. rw (word_through p, text_through p t) (each_longest p.classes (own_bytes p) t lent)) A;
+    whole = promised (λ after count. WholeWhere p.classes (own_bytes p) t (occurrences (word_of p) (text_of p t)) after)
+        (λ I. rw (word_through p, text_through p t) record {
+          occurs = whole_occurs_by p.classes (own_bytes p) t lent;
+          stands = whole_listed p.classes (own_bytes p) t lent;
+        }) A;
+    ceiling = promised (λ after. FewFor (length t)) (λ I. rw (length_text p t) at (carried_few (word_of p) (text_of p t) (some_letter I))) A;
+    kmp = promised (λ after count. AsKmp (word_of p) (text_of p t)) (λ I. as_kmp (word_of p) (text_of p t) (some_letter I)) A;
+    plain = λ e. plain e A;
+  }

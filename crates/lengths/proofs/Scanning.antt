@@ -7,6 +7,7 @@ use native.Mathlib.Omega.{arith}
 use lib.ListN.{length, get_or}
 use Rattle.words.specs.Tables.{letter}
 use Rattle.words.proofs.Cases.{less_or}
+use Rattle.words.proofs.Noholes.{hmax_zero}
 use Rattle.rules.proofs.KmpMethod.{kmp_shift_moves}
 use Rattle.prefixes.specs.Longest.{longest, lengths_in}
 use Rattle.prefixes.specs.CarriedOn.{comparisons}
@@ -18,21 +19,21 @@ use Rattle.lengths.specs.Internal.Steps.{Tables, Passes, Begins, Extends, Leaves
 use Rattle.lengths.specs.Internal.Scan.{Right, Scans}
 use Rattle.lengths.proofs.Writing.{right_start, right_more, right_all}
 
--- Neither the window nor the matched length falls where a scan begins.
-pub begins_on : (t : List ℕ) (x : ℕ) {before after : List ℕ} {b i b' i' : ℕ} → Begins t x before after b i b' i' → (b ≤ b') × (i ≤ i')
-begins_on t x (inl h) = (omega (arith, h.1), omega (arith, h.2))
-begins_on t x (inr (none, P, h)) = (P.from, omega arith)
-
--- And they stay within the pattern and the text.
-pub begins_within : (t : List ℕ) (x m : ℕ) {before after : List ℕ} {b i b' i' : ℕ} → 1 ≤ m → i ≤ m → b + i ≤ length t
-    → Begins t x before after b i b' i' → (i' ≤ m) × (b' + i' ≤ length t) × (length after ≡ length before)
-begins_within t x m some upto inside (inl h) = (omega (arith, h.2), omega (arith, h.1, h.2), ap length h.3)
-begins_within t x m some upto inside (inr (none, P, inl h)) = (omega (arith, h.1), omega (arith, h.0, h.1), P.zeros.size)
-begins_within t x m some upto inside (inr (none, P, inr h)) = (omega (arith, h.1), omega (arith, h.0, h.1), P.zeros.size)
-
 -- No entry of the table is below its k.
 pub from_k : {w table : List ℕ} → Tables w table → (i : ℕ) → i ≤ length w → (k : ℕ) → k < suc i → k ≤ min (get_or table k 0) i
 from_k {w} T i l k h = rw (T.known k (omega arith)) (omega (arith, (hmax_from_zero w k (omega arith)).from))
+
+-- The first entry of the table is the pattern's length, and the next is not 0.
+pub first_entry : {w table : List ℕ} → Tables w table → get_or table 0 0 ≡ length w
+first_entry {w} T = T.known 0 (omega arith) ∙ hmax_zero w
+
+pub next_entry : {w table : List ℕ} → Tables w table → 1 ≤ get_or table 1 0
+next_entry {w} T = omega (arith, T.known 1 (omega (arith, T.some)), (hmax_from_zero w 1 T.some).from)
+
+-- Below how many windows end before the text does, there is more than one letter, and a window that ends before the text.
+pub ends_before : {m n last : ℕ} → (1 < m → last ≡ n - m) × (m ≤ 1 → last ≡ 0) → (b : ℕ) → b < last → (1 < m) × (b + m < n)
+ends_before {m} counted b l =
+    ⊎_elim (λ (h : 1 < m). (h, omega (arith, counted.0 h))) (λ (h : m ≤ 1). absurd (omega (arith, counted.1 h))) (less_or 1 m)
 
 module _ (w t before : List ℕ) (some : 1 ≤ length w) where
   pub scans_start : Scans w t before before 0 0 0

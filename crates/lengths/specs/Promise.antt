@@ -2,13 +2,6 @@
 use Rattle.std.specs.Prelude.{ℕ, ◌+◌, ◌≤◌, ◌<◌, ◌≡◌, ◌↔◌, List, length, get_or}
 use Rattle.words.specs.Tables.{letter}
 use Rattle.classes.specs.Classes.{class_of, OccursBy}
-use Rattle.lengths.specs.declared.LengthsAnswer.{LengthsAnswer}
-use Rattle.lengths.specs.declared.LengthsAnswer.TheVariants.{Counted, Refused}
-
--- Where the call is not refused, such holds of its count.
-abbrev pub IfCounted : (ℕ → Type 0) → LengthsAnswer → Type 0
-IfCounted P (Counted c) = P c
-IfCounted P (Refused why) = Unit {0}
 
 -- The first r bytes of w stand at position x of the text t, and no more: what comes next differs, if w and the text have a byte more.
 pub record LongestBy (classes w t : List ℕ) (x r : ℕ) : Type 0 where

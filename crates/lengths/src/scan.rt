@@ -2,21 +2,19 @@
 // takes the scan on by a letter of the text, so that there are n of them, but for those after which the same letter is compared again.
 ghost use Rattle.std.specs.Prelude.{◌≡◌, ◌+◌, ◌-◌, ◌≤◌, ◌<◌, length};
 ghost use Rattle.admission.specs.Admitted.{longest_text};
-ghost use Rattle.classes.specs.Classes.{class_count, through};
 ghost use Rattle.prefixes.specs.Longest.{lengths_in};
 ghost use Rattle.prefixes.specs.CarriedOn.{comparisons};
-ghost use Rattle.lengths.specs.Internal.Steps.{Tables};
+ghost use Rattle.lengths.specs.Internal.Steps.{letters_of, Tables};
 ghost use Rattle.lengths.specs.Internal.Scan.{Scans, Carries};
 
-use super::entries::{least, minus, wide16};
-use super::steps::{begin, extend, extend_any, leave, stays};
+use super::steps::{Spot, Text, begin, extend, extend_any, leave, stays};
 
 // How many windows of m letters end before a text of n does. Those of one letter are not asked for: there is nothing to compare in them once it is
 // found.
 fn windows_inside(m: usize, n: usize) -> usize
     ensures { (1 < m → result ≡ n - m) × (m ≤ 1 → result ≡ 0) }
 {
-    if 1 < m { minus(n, m) } else { 0 }
+    if 1 < m { n.saturating_sub(m) } else { 0 }
 }
 
 // A window, how much of the pattern is matched in it, and how many letters of the text were compared again.
@@ -29,30 +27,21 @@ pub struct Reached {
 
 // The windows that end before the text does: no test asks for its end. A shift by 1, which a run of one letter makes at each position, is found
 // by a glance at the table.
-fn inside<'a>(
-    letters: &'a [u8],
-    hmax: &'a [u16],
-    classes: &'a [u8],
-    text: &'a [u8],
-    lengths: &mut [u16],
-) -> Reached
+fn inside(letters: &[u8], hmax: &[u16], text: Text, lengths: &mut [u16]) -> Reached
     requires tables { Tables letters.now hmax.now }
-    requires classes_len { length classes.now ≡ class_count }
-    requires text_len_bound { (length text.now ≤ longest_text) × (length text.now ≤ length lengths.old) }
-    ensures scans { Scans letters.now (through classes.now text.now) lengths.old lengths.new result.window result.matched result.again }
+    requires text_len_bound { (length text.bytes.now ≤ longest_text) × (length text.bytes.now ≤ length lengths.old) }
+    ensures scans { Scans letters.now (letters_of text.entry) lengths.old lengths.new result.window result.matched result.again }
     ensures again_le_longest_text { result.again ≤ longest_text }
 {
     let m = letters.len();
     let x = letters[0];
-    let first = wide16(hmax[1]);
-    let last = windows_inside(m, text.len());
+    let first = hmax[1] as usize;
+    let last = windows_inside(m, text.bytes.len());
     let mut b: usize = 0;
     let mut i: usize = 0;
     let mut again: u64 = 0;
     while b < last {
-        let spot = begin(x, classes, text, lengths, b, i);
-        let window = spot.window;
-        let matched = spot.matched;
+        let Spot { window, matched } = begin(x, text, lengths, b, i);
         if last <= window {
             return Reached {
                 window,
@@ -60,7 +49,7 @@ fn inside<'a>(
                 again,
             };
         }
-        let r = extend(letters, classes, text, window, matched, m);
+        let r = extend(letters, text, window, matched, m);
         if r == first {
             lengths[window] = r as u16;
             again += stays(1, r, m);
@@ -71,7 +60,7 @@ fn inside<'a>(
         let s = leave(hmax, lengths, window, r, r + 1);
         again += stays(s, r, m);
         b = window + s;
-        i = minus(r, s);
+        i = r.saturating_sub(s);
     }
     Reached {
         window: b,
@@ -82,62 +71,50 @@ fn inside<'a>(
 
 // The other windows, from window b with i letters matched in it; answers how many letters were compared again. Where no letter is left to compare
 // the last entries are written in the same way.
-fn rest<'a>(
-    letters: &'a [u8],
-    hmax: &'a [u16],
-    classes: &'a [u8],
-    text: &'a [u8],
+fn rest(
+    letters: &[u8],
+    hmax: &[u16],
+    text: Text,
     lengths: &mut [u16],
-    b: usize,
-    i: usize,
+    mut b: usize,
+    mut i: usize,
 ) -> u64
     requires tables { Tables letters.now hmax.now }
-    requires classes_len { length classes.now ≡ class_count }
-    requires text_len_bound { (length text.now ≤ longest_text) × (length text.now ≤ length lengths.old) }
-    requires i_in_bounds { (i ≤ length letters.now) × (b + i ≤ length text.now) }
-    ensures carries { Carries letters.now (through classes.now text.now) lengths.old lengths.new b i result }
+    requires text_len_bound { (length text.bytes.now ≤ longest_text) × (length text.bytes.now ≤ length lengths.old) }
+    requires i_in_bounds { (i ≤ length letters.now) × (b + i ≤ length text.bytes.now) }
+    ensures carries { Carries letters.now (letters_of text.entry) lengths.old lengths.new b i result }
     ensures upper_bound { result ≤ longest_text }
 {
     let m = letters.len();
-    let n = text.len();
+    let n = text.bytes.len();
     let x = letters[0];
-    let mut b = b;
-    let mut i = i;
     let mut again: u64 = 0;
     while b < n {
-        let spot = begin(x, classes, text, lengths, b, i);
-        let window = spot.window;
-        let matched = spot.matched;
+        let Spot { window, matched } = begin(x, text, lengths, b, i);
         if n <= window {
             return again;
         }
-        let end = least(m, n - window);
-        let r = extend_any(letters, classes, text, window, matched, end);
-        let s = leave(hmax, lengths, window, r, least(r + 1, n - window));
+        let end = m.min(n - window);
+        let r = extend_any(letters, text, window, matched, end);
+        let s = leave(hmax, lengths, window, r, (r + 1).min(n - window));
         again += stays(s, r, end);
         b = window + s;
-        i = minus(r, s);
+        i = r.saturating_sub(s);
     }
     again
 }
 
-pub fn scan<'a>(
-    letters: &'a [u8],
-    hmax: &'a [u16],
-    classes: &'a [u8],
-    text: &'a [u8],
-    lengths: &mut [u16],
-) -> u64
+pub fn scan(letters: &[u8], hmax: &[u16], text: Text, lengths: &mut [u16]) -> u64
     requires tables { Tables letters.now hmax.now }
-    requires classes_len { length classes.now ≡ class_count }
-    requires text_len_bound { (length text.now ≤ longest_text) × (length text.now ≤ length lengths.old) }
-    ensures value { result ≡ comparisons letters.now (through classes.now text.now) }
-    ensures lengths_after { lengths.new ≡ lengths_in letters.now (through classes.now text.now) lengths.old }
+    requires text_len_bound { (length text.bytes.now ≤ longest_text) × (length text.bytes.now ≤ length lengths.old) }
+    ensures value { result ≡ comparisons letters.now (letters_of text.entry) }
+    ensures lengths_after { lengths.new ≡ lengths_in letters.now (letters_of text.entry) lengths.old }
 {
-    let reached = inside(letters, hmax, classes, text, lengths);
-    let window = reached.window;
-    let matched = reached.matched;
-    let again = reached.again;
-    let more = rest(letters, hmax, classes, text, lengths, window, matched);
-    again + more + text.len() as u64
+    let Reached {
+        window,
+        matched,
+        again,
+    } = inside(letters, hmax, text, lengths);
+    let more = rest(letters, hmax, text, lengths, window, matched);
+    again + more + text.bytes.len() as u64
 }

@@ -2,38 +2,43 @@
 // here, each once.
 ghost use Rattle.std.specs.Prelude.{◌≡◌, ℕ, ◌+◌, ◌≤◌, ◌<◌, min, eqb, length, get_or};
 ghost use Rattle.words.specs.Tables.{letter};
-ghost use Rattle.classes.specs.Classes.{class_count, through};
 ghost use Rattle.hmax.specs.Table.{entry_bound};
-ghost use Rattle.lengths.specs.Internal.Steps.{Passes, Begins, Extends, LeavesBy, Stays};
+ghost use Rattle.lengths.specs.Internal.Steps.{letters_of, Passes, Begins, Extends, LeavesBy, Stays};
 
-use super::entries::{least, wide8, wide16};
+use classes::CLASSES;
 
-// Whether x is the letter at a position of a text.
-fn agree<'a>(x: u8, classes: &'a [u8], text: &'a [u8], position: usize) -> bool
-    requires { (length classes.now ≡ class_count) × (position < length text.now) }
-    ensures { result ≡ eqb x (letter (through classes.now text.now) position) }
-{
-    let byte = text[position];
-    let class = classes[wide8(byte)];
-    x == class
+// A text, and the classes that its bytes are read through.
+#[derive(Clone, Copy)]
+pub struct Text<'a> {
+    pub classes: &'a [u8; CLASSES],
+    pub bytes: &'a [u8],
+}
+
+impl<'a> Text<'a> {
+    // Whether x is the letter at a position.
+    #[tactic(auto, using(classes::proofs::Through::class_entry, classes::proofs::Through::through_at))]
+    fn agrees(self, x: u8, position: usize) -> bool
+        requires { position < length self.bytes.now }
+        ensures { result ≡ eqb x (letter (letters_of self.entry) position) }
+    {
+        let Text { classes, bytes } = self;
+        x == classes[bytes[position] as usize]
+    }
 }
 
 // The first position from `from` on that has the letter x, or the text's end. A window that does not begin with x has nothing matched: its entry
 // is 0.
-fn pass<'a>(x: u8, classes: &'a [u8], text: &'a [u8], lengths: &mut [u16], from: usize) -> usize
-    requires classes_len { length classes.now ≡ class_count }
-    requires from_in_bounds { (from ≤ length text.now) × (length text.now ≤ length lengths.old) }
-    ensures { Passes (through classes.now text.now) x lengths.old lengths.new from result }
+fn pass(x: u8, text: Text, lengths: &mut [u16], from: usize) -> usize
+    requires { (from ≤ length text.bytes.now) × (length text.bytes.now ≤ length lengths.old) }
+    ensures { Passes (letters_of text.entry) x lengths.old lengths.new from result }
 {
-    let mut b = from;
-    while b < text.len() {
-        if agree(x, classes, text, b) {
+    for b in from..text.bytes.len() {
+        if text.agrees(x, b) {
             return b;
         }
         lengths[b] = 0;
-        b += 1;
     }
-    b
+    text.bytes.len()
 }
 
 // A window, and how much of the pattern is matched in it.
@@ -44,17 +49,9 @@ pub struct Spot {
 }
 
 // Where letters are compared on from window b: there, if something is matched in it; else in the first window that begins with x.
-pub fn begin<'a>(
-    x: u8,
-    classes: &'a [u8],
-    text: &'a [u8],
-    lengths: &mut [u16],
-    b: usize,
-    i: usize,
-) -> Spot
-    requires classes_len { length classes.now ≡ class_count }
-    requires b_in_bounds { (b ≤ length text.now) × (length text.now ≤ length lengths.old) }
-    ensures { Begins (through classes.now text.now) x lengths.old lengths.new b i result.window result.matched }
+pub fn begin(x: u8, text: Text, lengths: &mut [u16], b: usize, i: usize) -> Spot
+    requires { (b ≤ length text.bytes.now) × (length text.bytes.now ≤ length lengths.old) }
+    ensures { Begins (letters_of text.entry) x lengths.old lengths.new b i result.window result.matched }
 {
     if 0 < i {
         return Spot {
@@ -62,58 +59,36 @@ pub fn begin<'a>(
             matched: i,
         };
     }
-    let first = pass(x, classes, text, lengths, b);
-    if first < text.len() {
-        Spot {
-            window: first,
-            matched: 1,
-        }
-    } else {
-        Spot {
-            window: first,
-            matched: 0,
-        }
+    let window = pass(x, text, lengths, b);
+    Spot {
+        window,
+        matched: usize::from(window < text.bytes.len()),
     }
 }
 
-// The first place from `from` on and below `end` whose letter differs from the text's in window b, or `end`. There is a place to compare.
-pub fn extend<'a>(
-    letters: &'a [u8],
-    classes: &'a [u8],
-    text: &'a [u8],
-    b: usize,
-    from: usize,
-    end: usize,
-) -> usize
-    requires classes_len { length classes.now ≡ class_count }
-    requires from_lt_end { (from < end) × (end ≤ length letters.now) × (b + end ≤ length text.now) }
-    ensures { Extends letters.now (through classes.now text.now) b from end result }
+// The first place from `from` on and below `end` whose letter differs from the text's in window b, or `end`. There is a place to compare, so that
+// the end is tested for only after a comparison.
+pub fn extend(letters: &[u8], text: Text, b: usize, from: usize, end: usize) -> usize
+    requires { (from < end) × (end ≤ length letters.now) × (b + end ≤ length text.bytes.now) }
+    ensures { Extends letters.now (letters_of text.entry) b from end result }
 {
     let mut p = from;
-    while agree(letters[p], classes, text, b + p) {
+    while text.agrees(letters[p], b + p) {
         p += 1;
         if p == end {
-            return p;
+            break;
         }
     }
     p
 }
 
 // The same where there may be none.
-pub fn extend_any<'a>(
-    letters: &'a [u8],
-    classes: &'a [u8],
-    text: &'a [u8],
-    b: usize,
-    from: usize,
-    end: usize,
-) -> usize
-    requires classes_len { length classes.now ≡ class_count }
-    requires from_le_end { (from ≤ end) × (end ≤ length letters.now) × (b + end ≤ length text.now) }
-    ensures { Extends letters.now (through classes.now text.now) b from end result }
+pub fn extend_any(letters: &[u8], text: Text, b: usize, from: usize, end: usize) -> usize
+    requires { (from ≤ end) × (end ≤ length letters.now) × (b + end ≤ length text.bytes.now) }
+    ensures { Extends letters.now (letters_of text.entry) b from end result }
 {
     if from < end {
-        extend(letters, classes, text, b, from, end)
+        extend(letters, text, b, from, end)
     } else {
         from
     }
@@ -124,11 +99,7 @@ pub fn extend_any<'a>(
 pub fn stays(s: usize, r: usize, end: usize) -> u64
     ensures { Stays s r end result }
 {
-    if r < end {
-        if s <= r { 1 } else { 0 }
-    } else {
-        0
-    }
+    u64::from(r < end && s <= r)
 }
 
 // Leaves window b, where i letters are matched, and answers by how much: the first k whose hmax is i, or `end`. The entries of the windows up to
@@ -140,14 +111,12 @@ pub fn leave(hmax: &[u16], lengths: &mut [u16], b: usize, i: usize, end: usize) 
     ensures { LeavesBy hmax.now lengths.old lengths.new b i end result }
 {
     lengths[b] = i as u16;
-    let mut k: usize = 1;
-    while k < end {
-        let h = wide16(hmax[k]);
+    for k in 1..end {
+        let h = hmax[k] as usize;
         if h == i {
             return k;
         }
-        lengths[b + k] = (least(h, i) - k) as u16;
-        k += 1;
+        lengths[b + k] = (h.min(i) - k) as u16;
     }
-    k
+    end
 }

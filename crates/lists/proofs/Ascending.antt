@@ -1,8 +1,8 @@
 -- Lists that ascend, and the test of it. Assumes nothing.
-use Prim.Native.Nat.{ℕ, zero, suc, ◌+◌, ◌-◌, ◌≤◌, ◌<◌}
+use Prim.Native.Nat.{ℕ, zero, suc, ◌+◌, ◌-◌, ◌≤◌, ◌<◌, max}
 use mathlib.Core.Path.{◌≡◌, refl, sym, ◌∙◌}
 use mathlib.Core.Logic.{⊎_elim, ◌↔◌}
-use mathlib.Core.Bool.{Bool, true, false, ◌&&◌, and_assoc, and-true}
+use mathlib.Core.Bool.{Bool, true, ◌&&◌, and_comm}
 use mathlib.Core.List.{List, [], ◌∷◌, ◌++◌}
 use native.Mathlib.Omega.{arith}
 use lib.Dec.{ltb, leb}
@@ -94,7 +94,7 @@ same_entries (x ∷ a) (y ∷ b) A B f g =
 
 module _ (l : List ℕ) where
   -- Entry i is below the next.
-  abbrev rises : ℕ → Bool
+  abbrev pub rises : ℕ → Bool
   rises i = ltb (get_or l i 0) (get_or l (suc i) 0)
 
   pub ascends_of : ((i : ℕ) → suc i < length l → get_or l i 0 < get_or l (suc i) 0) → ascends l ≡ true
@@ -141,35 +141,32 @@ module _ (list : List ℕ) (used : ℕ) where
 
 -- ---- The test by code, pair by pair
 
-and_swap : (a b c : Bool) → (a && (b && c)) ≡ (b && (a && c))
-and_swap true b c = refl
-and_swap false true c = refl
-and_swap false false c = refl
-
-every_first : (n : ℕ) (q : ℕ → Bool) → every (suc n) q ≡ (q 0 && every n (λ i. q (suc i)))
+every_same : (n : ℕ) (q t : ℕ → Bool) → ((i : ℕ) → i < n → q i ≡ t i) → every n q ≡ every n t
 unfolding every
-every_first zero q = refl
-every_first (suc n) q = rw (every_first n q) (and_swap (q (suc n)) (q 0) (every n (λ i. q (suc i))))
+every_same zero q t h = refl
+every_same (suc n) q t h = rw (h n (omega arith), every_same n q t (λ i l. h i (omega arith))) refl
 
--- The first pair, and those after it.
-ascends_first : (x y : ℕ) (l : List ℕ) → ascends (x ∷ y ∷ l) ≡ (ltb x y && ascends (y ∷ l))
+-- One entry alone ascends.
+pub none_tested : (list : List ℕ) → true ≡ every (1 - 1) (rises list)
+unfolding every
+none_tested list = refl
+
+-- The first i entries are tested, and entry i is.
+pub pair_tested : (list : List ℕ) (i : ℕ) (rising : Bool) → 1 ≤ i → rising ≡ every (i - 1) (rises list)
+    → (rising && ltb (get_or list (i - 1) 0) (get_or list i 0)) ≡ every (i + 1 - 1) (rises list)
+unfolding every
+pair_tested list i rising positive e =
+    let on : i + 1 - 1 ≡ suc (i - 1) = omega arith in
+    let next : suc (i - 1) ≡ i = omega arith in
+    rw (e, on, next) (and_comm (every (i - 1) (rises list)) (ltb (get_or list (i - 1) 0) (get_or list i 0)))
+
+-- Where all in use are tested, it is the answer.
+pub all_tested : (list : List ℕ) (used i : ℕ) (rising : Bool) → used ≤ length list → 1 ≤ i → i ≤ max 1 used → used ≤ i
+    → rising ≡ every (i - 1) (rises list) → rising ≡ in_order list used
 unfolding ascends
-ascends_first x y l =
-    let long : suc (suc (length l)) - 1 ≡ suc (length l) = omega arith in
-    let short : suc (length l) - 1 ≡ length l = omega arith in
-    rw (long, short) (every_first (length l) (rises (x ∷ y ∷ l)))
-
--- Where a pair has been tested, with all before it, the test goes on with those after it.
-pub pair_tested : (rest pair later : List ℕ) (rising : Bool) → 2 ≤ length rest → pair ≡ take 2 rest → later ≡ drop 1 rest
-    → ((rising && ltb (get_or pair 0 0) (get_or pair 1 0)) && ascends later) ≡ (rising && ascends rest)
-pair_tested [] pair later rising l e f = absurd (omega arith)
-pair_tested (x ∷ []) pair later rising l e f = absurd (omega arith)
-pair_tested (x ∷ y ∷ rest) pair later rising l e f = rw (e, f, ascends_first x y rest) (and_assoc rising (ltb x y) (ascends (y ∷ rest)))
-
--- Where no pair is left, the answer is what was tested.
-pub all_tested : (list : List ℕ) (used : ℕ) (rest : List ℕ) (rising : Bool) → used ≤ length list → length rest < 2
-    → (rising && ascends rest) ≡ ascends (take used list) → rising ≡ in_order list used
-unfolding ascends
-all_tested list used rest rising fits short e =
-    let none : ascends rest ≡ true = every_of (length rest - 1) (rises rest) (λ i g. absurd (omega arith)) in
-    rw (le-leb used (length list) fits) (sym (and-true rising) ∙ rw none at e)
+all_tested list used i rising fits positive upto past e =
+    let size : length (take used list) ≡ used = length-take-le used list fits in
+    let last : i - 1 ≡ used - 1 = omega arith in
+    rw (le-leb used (length list) fits, size, sym last) (e ∙ every_same (i - 1) (rises list) (rises (take used list))
+    (λ k l. let later : suc k < used = omega arith in
+    rw (get_or-take used list k 0 (omega arith), get_or-take used list (suc k) 0 later) refl))

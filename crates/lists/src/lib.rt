@@ -14,8 +14,8 @@ pub fn in_order(list: &[u32], used: usize) -> bool
     }
     // No way out before the end: so a compiler takes several entries at a time.
     let mut rises = true;
-    for pair in list[..used].windows(2) {
-        rises &= pair[0] < pair[1];
+    for i in 1..used {
+        rises &= list[i - 1] < list[i];
     }
     rises
 }

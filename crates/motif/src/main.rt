@@ -3,29 +3,11 @@
 
 ghost use Rattle.std.specs.Prelude.{◌<◌, ◌≤◌, length, take, IfOk};
 ghost use Rattle.std.specs.Io.KnownBytes.{Consumes, IsAtEnd};
-ghost use Rattle.motif.specs.Piece.{IsPieceOf};
 
-use job::{BUFFER, JobAnswer, LONGEST_TEXT};
+use job::{BUFFER, LONGEST_TEXT};
+use std::fmt::Display;
 use std::io;
 use std::io::{Read, Write};
-
-// What one read gave: some bytes, or none because the input has ended.
-#[derive(Clone, Copy)]
-enum Piece {
-    More(usize),
-    End,
-}
-
-fn read_some<R: Read>(reader: &mut R, part: &mut [u8]) -> io::Result<Piece>
-    ensures { IfOk result (IsPieceOf (R.remaining reader.old) (R.remaining reader.new) part.new) }
-{
-    let n = reader.read(part)?;
-    if n == 0 {
-        Ok(Piece::End)
-    } else {
-        Ok(Piece::More(n))
-    }
-}
 
 // Reads until the buffer is full or the input ends. Answers how much of the buffer was filled.
 fn read_all<R: Read>(reader: &mut R, buf: &mut [u8]) -> io::Result<usize>
@@ -33,29 +15,30 @@ fn read_all<R: Read>(reader: &mut R, buf: &mut [u8]) -> io::Result<usize>
     ensures bytes { IfOk result (λ n. Consumes (R.remaining reader.old) (R.remaining reader.new) (take n buf.new)) }
     ensures end { IfOk result (λ n. n < length buf.new → IsAtEnd (R.remaining reader.new)) }
 {
-    let mut n: usize = 0;
+    let mut n = 0;
     while n < buf.len() {
-        match read_some(reader, &mut buf[n..])? {
-            Piece::More(more) => n += more,
-            Piece::End => break,
+        match reader.read(&mut buf[n..])? {
+            0 => break,
+            more => n += more,
         }
     }
     Ok(n)
 }
 
 // A complaint that cannot be written is lost.
-fn complain<W: Write>(stderr: &mut W, text: &[u8]) {
-    let _ = stderr.write_all(text);
+fn complain<W: Write>(stderr: &mut W, complaint: impl Display + Drop) {
+    let _ = writeln!(stderr, "motif: {complaint}");
 }
 
 // The answer to an input, written by way of a buffer.
 fn answer<W: Write, E: Write>(stdout: &mut W, stderr: &mut E, input: &[u8], out: &mut [u8]) {
-    let JobAnswer::Wrote(n) = job::job(input, out) else {
-        complain(stderr, b"motif: the buffer is too short\n");
-        return;
-    };
-    if stdout.write_all(&out[..n]).is_err() {
-        complain(stderr, b"motif: the output cannot be written\n");
+    match job::job(input, out) {
+        Ok(n) => {
+            if stdout.write_all(&out[..n]).is_err() {
+                complain(stderr, "the output cannot be written");
+            }
+        }
+        Err(why) => complain(stderr, why),
     }
 }
 
@@ -66,11 +49,10 @@ fn serve<R: Read, W: Write, E: Write>(
     input: &mut [u8],
     out: &mut [u8],
 ) {
-    let Ok(n) = read_all(stdin, input) else {
-        complain(stderr, b"motif: the input cannot be read\n");
-        return;
-    };
-    answer(stdout, stderr, &input[..n], out);
+    match read_all(stdin, input) {
+        Ok(n) => answer(stdout, stderr, &input[..n], out),
+        Err(_) => complain(stderr, "the input cannot be read"),
+    }
 }
 
 // The longest input that can be accepted is a length byte, 255 bytes of the pattern and the longest text. One byte more tells that it is

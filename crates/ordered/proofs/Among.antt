@@ -1,11 +1,12 @@
 -- The noholes among the first places of an order, as they are counted. Assumes nothing.
 use Prim.Native.Nat.{ℕ, suc, ◌+◌, ◌≤◌, ◌<◌}
 use mathlib.Core.Path.{◌≡◌, refl, sym, ap, ◌∙◌}
-use mathlib.Core.Bool.{cond}
+use mathlib.Core.Bool.{Bool, true, false, cond}
+use mir.Val.{bool_byte}
 use mathlib.Core.List.{List}
 use native.Mathlib.Numerals.{add-one}
 use native.Mathlib.Omega.{arith}
-use lib.ListN.{length, get_or, set, length-set}
+use lib.ListN.{length, get_or, set}
 use lib.Seq.{get_or-set_same}
 use Rattle.words.specs.Numbers.{count}
 use Rattle.words.specs.Tables.{nohole}
@@ -17,44 +18,41 @@ use Rattle.ordered.specs.Internal.{MarkedAmong, noholes_among}
 
 -- ---- By the marks
 
-module _ (order marks : List ℕ) (n : ℕ) where
-  -- Of the first i places c are marked, and the entries up to i say so, of n.
+-- A test's number is what it adds to a count.
+byte_is : (b : Bool) → bool_byte b ≡ cond b 1 0
+byte_is true = refl
+byte_is false = refl
+
+module _ (order marks : List ℕ) where
+  -- Of the first i places c are marked, and the entries up to i say so.
   pub record CountedTo (among : List ℕ) (c i : ℕ) : Type 0 where
-    pub upto : i ≤ length order
     pub number : c ≡ count i (λ j. marked marks (get_or order j 0))
     pub entries : MarkedAmong order marks among i
-    pub size : length among ≡ n
 
-  pub none_counted : (lent : List ℕ) → 0 < length lent → length (set lent 0 0) ≡ n → CountedTo (set lent 0 0) 0 0
-  none_counted lent room size = record {
-    upto = omega arith;
+  pub none_counted : (lent : List ℕ) → 0 < length lent → CountedTo (set lent 0 0) 0 0
+  none_counted lent room = record {
     number = sym (count_zero (λ j. marked marks (get_or order j 0)));
     entries = λ i l.
         let z : i ≡ 0 = omega arith in
         rw z (get_or-set_same lent 0 0 0 room ∙ sym (count_zero (λ j. marked marks (get_or order j 0))));
-    size = size;
   }
 
   module _ {among : List ℕ} {c i : ℕ} (C : CountedTo among c i) where
     pub few : c ≤ i
     few = omega (arith, C.number, count_le i (λ j. marked marks (get_or order j 0)))
 
-    -- The next place is counted, and its entry stored, as v.
-    pub one_counted : length order < n → i < length order → {d v : ℕ} → d ≡ cond (marked marks (get_or order i 0)) 1 0 → v ≡ c + d
-        → CountedTo (set among (i + 1) v) (c + d) (i + 1)
-    one_counted room inside {d} {v} adds is =
-        let number : c + d ≡ count (i + 1) (λ j. marked marks (get_or order j 0)) = rw (add-one i) (unfold count in omega (arith, C.number)) in
+    -- The next place is counted, and its entry stored.
+    pub one_counted : i + 1 < length among → {d : Bool} {a : ℕ} → d ≡ marked marks (get_or order i 0) → a ≡ bool_byte d
+        → CountedTo (set among (i + 1) (c + a)) (c + a) (i + 1)
+    one_counted room {d} {a} is adds =
+        let number : c + a ≡ count (i + 1) (λ j. marked marks (get_or order j 0)) =
+        rw (adds, is, add-one i) (unfold count in omega (arith, C.number, byte_is (marked marks (get_or order i 0)))) in
         record {
-          upto = omega arith;
           number = number;
-          entries = λ j l. after_store among (i + 1) v (λ x. x ≡ count j (λ j. marked marks (get_or order j 0))) j (omega (arith, C.size))
-              (λ here. is ∙ number ∙ ap (λ n. count n (λ j. marked marks (get_or order j 0))) (sym here))
+          entries = λ j l. after_store among (i + 1) (c + a) (λ x. x ≡ count j (λ j. marked marks (get_or order j 0))) j room
+              (λ here. number ∙ ap (λ n. count n (λ j. marked marks (get_or order j 0))) (sym here))
               (λ other. C.entries j (omega arith));
-          size = length-set among (i + 1) v ∙ C.size;
         }
-
-    pub all_counted : length order ≤ i → MarkedAmong order marks among (length order)
-    all_counted end j l = C.entries j (omega arith)
 
 -- ---- They are the noholes
 

@@ -1,7 +1,6 @@
 -- The laws behind the functions' proofs, a module an idea; a module uses those above it.
 pub mod Admitting
 pub mod Among
-pub mod Reaching
 pub mod Scanning
 pub mod Lent
 pub mod Promises

@@ -1,13 +1,16 @@
 -- The scan in a custom order, window by window, as a search by the rules. Assumes nothing.
 use Prim.Native.Nat.{ℕ, zero, suc, ◌+◌, ◌-◌, ◌≤◌, ◌<◌, min}
 use mathlib.Core.Path.{◌≡◌, refl, ap, ◌∙◌}
+use mathlib.Core.Bool.{true}
 use mathlib.Core.Logic.{inl}
 use mathlib.Core.List.{List}
 use native.Mathlib.Numerals.{add-one}
 use native.Mathlib.Omega.{arith}
 use lib.ListN.{length, get_or, set}
-use borrow.Author.Tests.{eq-eqb, ne_eqb}
+use borrow.Author.Tests.{eq-eqb, ne_eqb, true-eqb}
+use lib.Dec.{eqb}
 use Rattle.words.specs.Tables.{letter, nohole}
+use Rattle.classes.proofs.Through.{length_through}
 use Rattle.columns.specs.Ended.{ended_with}
 use Rattle.custom.specs.Custom.{custom_shift, custom_plan, custom}
 use Rattle.custom.proofs.Shifts.{shift_moves}
@@ -20,7 +23,8 @@ use Rattle.rules.specs.declared.Ending.TheVariants.{Done, Spent, Full}
 use Rattle.rules.proofs.Columns.{Split, by_noholes}
 use Rattle.rules.proofs.Following.{Ranges}
 use Rattle.rules.proofs.Scans.{Scans, column_upto, scans_as, scans_start, scans_done, scans_spent, scans_full, scans_matched, scans_missed, scans_listed}
-use Rattle.ordered.specs.Internal.{noholes_among, Reaches, LentTables}
+use Rattle.ordered.specs.Internal.{letters_of, noholes_among, Reaches, LentTables}
+use Rattle.ordered.specs.declared.scan.Text.{Text}
 use Rattle.ordered.proofs.Among.{among_none, among_more}
 
 -- The scan stands at rank 0 of window b, with so much left of the cap and q comparisons made at noholes.
@@ -34,7 +38,7 @@ in_order_start w order text cap before = record {
   scans = scans_as (scans_start (nohole w) (custom_plan order w) (text_source w text) cap before) (omega arith) refl;
 }
 
-module _ (w order shifts among : List ℕ) (T : LentTables w order shifts among) {text : List ℕ} {cap : ℕ} {before after : List ℕ} {b left q k : ℕ}
+module _ {w order shifts among : List ℕ} (T : LentTables w order shifts among) {text : List ℕ} {cap : ℕ} {before after : List ℕ} {b left q k : ℕ}
     (F : InOrder w order text cap before after b left q k) where
   R : Ranges (custom_plan order w)
   R = custom_ranges order w T.some
@@ -93,9 +97,10 @@ module _ (w order shifts among : List ℕ) (T : LentTables w order shifts among)
         fits (due 0 T.some) (omega (arith, F.within))
 
     -- Rank 0 agrees, and the others up to r.
-    module _ (first : Agrees 0) {end r : ℕ} (is : end ≡ min (length w) left) (N : Reaches w order text b end r) where
+    module _ (met : true ≡ eqb (letter w (get_or order 0 0)) (letter text (b + get_or order 0 0))) {end r : ℕ} (is : end ≡ min left (length w))
+        (N : Reaches w order text b end r) where
       agreed : (j : ℕ) → j < r → Agrees j
-      agreed zero l = first
+      agreed zero l = true-eqb _ _ met
       agreed (suc j) l = N.same (suc j) l (omega arith)
 
       -- The window is left with rank r.
@@ -139,9 +144,13 @@ module _ (w order shifts among : List ℕ) (T : LentTables w order shifts among)
                     (rw (edge, ← shift) at (scans_listed (nohole w) (custom_plan order w) (text_source w text) cap before R reached fits (inl whole) free));
               }
 
+-- A text has as many letters as bytes.
+pub length_letters : (text : Text) → length (letters_of text) ≡ length text.bytes.now
+length_letters text = length_through text.classes.now text.bytes.now
+
 -- A text without a window: the search is done before it begins.
-pub done_at_once : (w order shifts among : List ℕ) → LentTables w order shifts among → (text : List ℕ) (cap : ℕ) (before : List ℕ)
+pub done_at_once : {w order shifts among : List ℕ} → LentTables w order shifts among → (text : List ℕ) (cap : ℕ) (before : List ℕ)
     → length text < length w → Reported w (custom order w text cap (length before)) before before (ended_with Done 0 0 0 0)
-done_at_once w order shifts among T text cap before l =
+done_at_once {w} {order} T text cap before l =
     let none : cap - cap ≡ 0 = omega arith in
-    rw none at (scan_done w order shifts among T (in_order_start w order text cap before) (omega arith))
+    rw none at (scan_done T (in_order_start w order text cap before) (omega arith))

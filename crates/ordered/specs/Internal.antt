@@ -2,10 +2,16 @@
 use Rattle.std.specs.Prelude.{ℕ, ◌+◌, ◌≤◌, ◌<◌, ◌≡◌, List, length, get_or}
 use Rattle.words.specs.Numbers.{count}
 use Rattle.words.specs.Tables.{letter, nohole}
+use Rattle.classes.specs.Classes.{through}
 use Rattle.custom.specs.Order.{Arrangement}
 use Rattle.custom.specs.Custom.{custom_shift}
 use Rattle.intake.specs.Sizes.{longest_pattern}
 use Rattle.ones.specs.Marks.{marked}
+use Rattle.ordered.specs.declared.scan.Text.{Text}
+
+-- The letters of a text.
+abbrev pub letters_of : Text → List ℕ
+letters_of text = through text.classes.now text.bytes.now
 
 -- Entry i, for each i up to n, tells how many of the first i places of an order are marked.
 abbrev pub MarkedAmong : List ℕ → List ℕ → List ℕ → ℕ → Type 0

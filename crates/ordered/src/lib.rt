@@ -1,118 +1,88 @@
 // The search in a custom order of comparison: document 02's request C-20.
 #![tactic(auto)]
 
-mod entries;
 mod scan;
 
-ghost use Rattle.std.specs.Prelude.{◌≡◌, ℕ, ◌≤◌, ◌<◌, length, take};
-ghost use Rattle.words.specs.Tables.{nohole};
-ghost use Rattle.admission.specs.Admitted.{longest_text};
-ghost use Rattle.classes.specs.Classes.{class_count, through, identity};
+ghost use Rattle.std.specs.Prelude.{◌≡◌, length, IfOk};
+ghost use Rattle.admission.specs.Admitted.{IsAdmitted};
+ghost use Rattle.classes.specs.Classes.{identity};
 ghost use Rattle.custom.specs.Order.{Arrangement};
 ghost use Rattle.custom.specs.Custom.{custom};
-ghost use Rattle.intake.specs.Sizes.{longest_pattern};
-ghost use Rattle.ones.specs.Marks.{marked};
 ghost use Rattle.pattern.specs.Letters.{own_bytes, word_of, text_of};
 ghost use Rattle.rules.specs.Report.{Columns, Reported};
-ghost use Rattle.search.specs.Promise.{IfRan, Located, ListedBy, AsColussi, NoZeroCovered};
+ghost use Rattle.search.specs.Promise.{Located, ListedBy, AsColussi, NoZeroCovered};
 ghost use Rattle.ordered.specs.Answer.{judged, answer_of, list_of, plain_answer_of, plain_list_of};
 
-use admission::{Admission, admit};
+use admission::admit;
 use classes::put_letters;
 use custom::{fill_shifts, is_arrangement};
-use ones::WORDS;
 use pattern::{LONGEST_PATTERN, Pattern, RANKS};
 use refusal::Refusal;
 pub use rules::{Ending, Report};
-pub use search::SearchAnswer;
+use scan::Text;
 
 // Whether an order of the m places of a pattern may be searched in, in a text of n bytes, by whether `is_prepared` finds the pattern prepared.
-fn door(prepared: bool, m: usize, order: &[u8], n: usize) -> Admission
+#[tactic(auto, unfolding(crate::specs::Answer::judged, admission::specs::Admitted::judged))]
+fn door(prepared: bool, m: usize, order: &[u8], n: usize) -> Result<(), Refusal>
     ensures { result ≡ judged prepared m order.now n }
 {
     if !prepared {
-        return Admission::Refused(Refusal::FalsePattern);
+        return Err(Refusal::FalsePattern);
     }
     if !is_arrangement(order, m) {
-        return Admission::Refused(Refusal::FalseOrder);
+        return Err(Refusal::FalseOrder);
     }
     admit(true, n)
 }
 
-// The scan for the letters of the first m bytes, with the tables of their order.
-fn scan_for<'a>(
-    bytes: &'a [u8],
-    m: usize,
-    classes: &'a [u8],
-    marks: &'a [u64; WORDS],
-    order: &'a [u8],
-    text: &'a [u8],
-    cap: u64,
-    positions: &mut [u32],
-) -> Report
-    requires le_m { (1 ≤ m) × (m ≤ longest_pattern) × (m ≤ length bytes.now) × (length classes.now ≡ class_count) }
-    requires arrangement { Arrangement m order.now × (length text.now ≤ longest_text) }
-    requires by_index { (p : ℕ) → p < longest_pattern → marked marks.now p ≡ nohole (through classes.now (take m bytes.now)) p }
-    ensures { Reported (through classes.now (take m bytes.now)) (custom order.now (through classes.now (take m bytes.now)) (through classes.now text.now) cap (length positions.old)) positions.old positions.new result }
+// The scan for a pattern's letters in those of a text, with the tables of their order.
+#[tactic(auto, using(crate::proofs::Lent::short_enough))]
+fn scan_for(pattern: &Pattern, order: &[u8], text: &[u8], cap: u64, positions: &mut [u32]) -> Report
+    requires admitted { IsAdmitted pattern.now (length text.now) }
+    requires arrangement { Arrangement pattern.now.len order.now }
+    ensures { Reported (word_of pattern.now) (custom order.now (word_of pattern.now) (text_of pattern.now text.now) cap (length positions.old)) positions.old positions.new result }
 {
+    let m = pattern.len;
+    let bytes = &pattern.bytes[..m];
     let mut letters = [0u8; LONGEST_PATTERN];
-    put_letters(&bytes[..m], classes, &mut letters);
+    put_letters(bytes, &pattern.classes, &mut letters);
+    let letters = &letters[..m];
     let mut shifts = [0u16; RANKS];
-    fill_shifts(&letters[..m], order, &mut shifts);
+    fill_shifts(letters, order, &mut shifts);
     let mut among = [0u16; RANKS];
-    scan::fill_among(order, marks, &mut among);
-    scan::scan(
-        &letters[..m],
-        order,
-        &shifts,
-        &among,
-        classes,
-        text,
-        cap,
-        positions,
-    )
+    scan::fill_among(order, &pattern.marks, &mut among);
+    let text = Text {
+        classes: &pattern.classes,
+        bytes: text,
+    };
+    scan::scan(letters, order, &shifts, &among, text, cap, positions)
 }
 
 // Searches a text in an order of the caller's own, with at most `cap` comparisons: entry i is the place of the pattern that rank i compares. It
 // fills the list from its start with the positions where the pattern occurs, overlaps included. The entries after them are unchanged. Refused, in
 // this order, with the list unchanged: a pattern that is not what preparation gives for its own length, bytes and classes (4), an order that is not
 // an arrangement of the pattern's places (16), a text that is longer than the longest (5). The count has no ceiling.
-pub fn ordered<'a>(
+pub fn ordered(
     pattern: Pattern,
-    order: &'a [u8],
-    text: &'a [u8],
+    order: &[u8],
+    text: &[u8],
     cap: u64,
     positions: &mut [u32],
-) -> SearchAnswer
+) -> Result<Report, Refusal>
     ensures answer { result ≡ answer_of pattern order.now text.now cap (length positions.old) }
     ensures list { positions.new ≡ list_of pattern order.now text.now cap positions.old }
-    ensures accurate { IfRan (Located (custom order.now) (word_of pattern) (text_of pattern text.now) cap positions.new) result }
-    ensures classed { IfRan (ListedBy pattern.classes (own_bytes pattern) text.now positions.new) result }
-    ensures columns { IfRan (Columns (word_of pattern) (custom order.now (word_of pattern) (text_of pattern text.now) cap (length positions.old)).last.made) result }
-    ensures same { IfRan (AsColussi (word_of pattern) (text_of pattern text.now) positions.new) result }
-    ensures zeros { IfRan (NoZeroCovered (length (word_of pattern)) text.now positions.new) result }
+    ensures accurate { IfOk result (Located (custom order.now) (word_of pattern) (text_of pattern text.now) cap positions.new) }
+    ensures classed { IfOk result (ListedBy pattern.classes (own_bytes pattern) text.now positions.new) }
+    ensures columns { IfOk result (Columns (word_of pattern) (custom order.now (word_of pattern) (text_of pattern text.now) cap (length positions.old)).last.made) }
+    ensures same { IfOk result (AsColussi (word_of pattern) (text_of pattern text.now) positions.new) }
+    ensures zeros { IfOk result (NoZeroCovered (length (word_of pattern)) text.now positions.new) }
     ensures plain { pattern.classes ≡ identity → (result ≡ plain_answer_of pattern order.now text.now cap (length positions.old)) × (positions.new ≡ plain_list_of pattern order.now text.now cap positions.old) }
 {
-    let door = door(
+    door(
         checked::is_prepared(pattern),
         pattern.len,
         order,
         text.len(),
-    );
-    match door {
-        Admission::Admitted => {
-            let report = scan_for(
-                &pattern.bytes,
-                pattern.len,
-                &pattern.classes,
-                &pattern.marks,
-                order,
-                text,
-                cap,
-                positions,
-            );
-            SearchAnswer::Ran(report)
-        }
-        Admission::Refused(why) => SearchAnswer::Refused(why),
-    }
+    )?;
+    Ok(scan_for(&pattern, order, text, cap, positions))
 }

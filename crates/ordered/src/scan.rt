@@ -3,92 +3,87 @@
 ghost use Rattle.std.specs.Prelude.{◌≡◌, ℕ, ◌+◌, ◌≤◌, ◌<◌, eqb, length, get_or};
 ghost use Rattle.words.specs.Tables.{letter};
 ghost use Rattle.admission.specs.Admitted.{longest_text};
-ghost use Rattle.classes.specs.Classes.{class_count, through};
 ghost use Rattle.custom.specs.Custom.{custom};
 ghost use Rattle.intake.specs.Sizes.{longest_pattern};
 ghost use Rattle.rules.specs.Report.{Reported};
-ghost use Rattle.ordered.specs.Internal.{MarkedAmong, Reaches, LentTables};
+ghost use Rattle.ordered.specs.Internal.{letters_of, MarkedAmong, Reaches, LentTables};
 
-use super::entries::{least, one_if, wide8, wide16};
+use classes::CLASSES;
 use columns::with_noholes;
 use ones::{WORDS, is_marked};
 use rules::{Ending, Report};
 
 // How many of the first i places of an order are marked, for each i up to all of them.
-pub fn fill_among<'a>(order: &'a [u8], marks: &[u64; WORDS], among: &mut [u16])
+pub fn fill_among(order: &[u8], marks: &[u64; WORDS], among: &mut [u16])
     requires { (length order.now ≤ longest_pattern) × (length order.now < length among.old) }
     ensures { MarkedAmong order.now marks.now among.new (length order.now) }
 {
-    let mut c: usize = 0;
-    let mut i: usize = 0;
+    let mut count: u16 = 0;
     among[0] = 0;
-    while i < order.len() {
-        c += one_if(is_marked(marks, wide8(order[i])));
-        i += 1;
-        among[i] = c as u16;
+    for (i, &place) in order.iter().enumerate() {
+        count += u16::from(is_marked(marks, place as usize));
+        among[i + 1] = count;
     }
 }
 
-// Whether x is the letter at a position of a text.
-fn agree<'a>(x: u8, classes: &'a [u8], text: &'a [u8], position: usize) -> bool
-    requires { (length classes.now ≡ class_count) × (position < length text.now) }
-    ensures { result ≡ eqb x (letter (through classes.now text.now) position) }
-{
-    let byte = text[position];
-    let class = classes[wide8(byte)];
-    x == class
+// A text, and the classes that its bytes are read through.
+#[derive(Clone, Copy)]
+pub struct Text<'a> {
+    pub classes: &'a [u8; CLASSES],
+    pub bytes: &'a [u8],
+}
+
+impl<'a> Text<'a> {
+    // Whether x is the letter at a position.
+    #[tactic(auto, using(classes::proofs::Through::class_entry, classes::proofs::Through::through_at))]
+    fn agrees(self, x: u8, position: usize) -> bool
+        requires { position < length self.bytes.now }
+        ensures { result ≡ eqb x (letter (letters_of self.entry) position) }
+    {
+        let Text { classes, bytes } = self;
+        x == classes[bytes[position] as usize]
+    }
 }
 
 // The first rank from 1 on and below `end` whose letter differs from the text's in window b, or `end`.
-fn reach<'a>(
-    letters: &'a [u8],
-    order: &'a [u8],
-    classes: &'a [u8],
-    text: &'a [u8],
-    b: usize,
-    end: usize,
-) -> usize
-    requires classes_len { length classes.now ≡ class_count }
-    requires le_end { (1 ≤ end) × (end ≤ length order.now) × (b + length letters.now ≤ length text.now) }
+fn reach(letters: &[u8], order: &[u8], text: Text, b: usize, end: usize) -> usize
+    requires le_end { (1 ≤ end) × (end ≤ length order.now) × (b + length letters.now ≤ length text.bytes.now) }
     requires by_index { (i : ℕ) → i < length order.now → get_or order.now i 0 < length letters.now }
-    ensures { Reaches letters.now order.now (through classes.now text.now) b end result }
+    ensures { Reaches letters.now order.now (letters_of text.entry) b end result }
 {
-    let mut i: usize = 1;
-    while i < end {
-        let o = wide8(order[i]);
-        if !agree(letters[o], classes, text, b + o) {
+    for i in 1..end {
+        let place = order[i] as usize;
+        if !text.agrees(letters[place], b + place) {
             return i;
         }
-        i += 1;
     }
-    i
+    end
 }
 
 // The whole text.
-pub fn scan<'a>(
-    letters: &'a [u8],
-    order: &'a [u8],
-    shifts: &'a [u16],
-    among: &'a [u16],
-    classes: &'a [u8],
-    text: &'a [u8],
+pub fn scan(
+    letters: &[u8],
+    order: &[u8],
+    shifts: &[u16],
+    among: &[u16],
+    text: Text,
     cap: u64,
     positions: &mut [u32],
 ) -> Report
     requires lent_tables { LentTables letters.now order.now shifts.now among.now }
-    requires classes_len { (length classes.now ≡ class_count) × (length text.now ≤ longest_text) }
-    ensures { Reported letters.now (custom order.now letters.now (through classes.now text.now) cap (length positions.old)) positions.old positions.new result }
+    requires text_len { length text.bytes.now ≤ longest_text }
+    ensures { Reported letters.now (custom order.now letters.now (letters_of text.entry) cap (length positions.old)) positions.old positions.new result }
 {
     let m = letters.len();
-    if text.len() < m {
+    if text.bytes.len() < m {
         return with_noholes(Ending::Done, 0, 0, 0);
     }
-    let last = text.len() - m;
+    let last = text.bytes.len() - m;
     // What a miss at rank 0 does is the same each time.
-    let o = wide8(order[0]);
+    let o = order[0] as usize;
     let x = letters[o];
-    let step = wide16(shifts[0]);
-    let gained = wide16(among[1]) as u64;
+    let step = shifts[0] as usize;
+    let gained = among[1] as u64;
     let mut b: usize = 0;
     let mut left: u64 = cap;
     let mut q: u64 = 0;
@@ -97,23 +92,23 @@ pub fn scan<'a>(
         if left == 0 {
             return with_noholes(Ending::Spent(b), cap - left, q, k);
         }
-        if !agree(x, classes, text, b + o) {
+        if !text.agrees(x, b + o) {
             left -= 1;
             q += gained;
             b += step;
             continue;
         }
-        let end = least(m as u64, left) as usize;
-        let r = reach(letters, order, classes, text, b, end);
+        let end = left.min(m as u64) as usize;
+        let r = reach(letters, order, text, b, end);
         if r < end {
             left -= r as u64 + 1;
-            q += wide16(among[r + 1]) as u64;
-            b += wide16(shifts[r]);
+            q += among[r + 1] as u64;
+            b += shifts[r] as usize;
             continue;
         }
         // All that were compared agree: the cap is spent, or the pattern occurs.
         left -= r as u64;
-        q += wide16(among[r]) as u64;
+        q += among[r] as u64;
         if r < m {
             return with_noholes(Ending::Spent(b), cap - left, q, k);
         }
@@ -122,7 +117,7 @@ pub fn scan<'a>(
         }
         positions[k] = b as u32;
         k += 1;
-        b += wide16(shifts[m]);
+        b += shifts[m] as usize;
     }
     with_noholes(Ending::Done, cap - left, q, k)
 }

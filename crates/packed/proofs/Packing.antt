@@ -4,13 +4,12 @@ use mathlib.Core.Path.{◌≡◌, refl, sym, ap, ◌∙◌}
 use mathlib.Core.Bool.{Bool, true, false}
 use mathlib.Core.Logic.{◌↔◌}
 use mathlib.Core.List.{List, [], ◌∷◌, ◌++◌}
+use Rattle.std.specs.Prelude.{Option, Some, None, IfSome}
 use native.Mathlib.Omega.{arith}
 use lib.ListN.{length, take, length-append}
 use lib.Seq.{length-take-le, take-append_seam, drop-append_seam}
 use Rattle.words.proofs.Cases.{not_both}
-use Rattle.packed.specs.Packed.{patterns, patterns_after, whole, whole_after, counted, packing, PackedFrom, NotPacked, IfCounted}
-use Rattle.packed.specs.declared.Counted.{Counted}
-use Rattle.packed.specs.declared.Counted.TheVariants.{Patterns, Cut}
+use Rattle.packed.specs.Packed.{patterns, patterns_after, whole, whole_after, counted, packing, PackedFrom, NotPacked}
 use Rattle.packed.proofs.Splitting.{patterns_cons, whole_cons, whole_room}
 
 -- ---- Patterns packed are whole, and read back as they were
@@ -47,23 +46,23 @@ packing_patterns packed all = packing_after 0 packed all
 -- ---- Counted
 
 module _ (packed : List ℕ) where
-  pub counted_cut : whole packed ≡ false → counted packed ≡ Cut
+  pub counted_cut : whole packed ≡ false → counted packed ≡ None
   unfolding counted
   counted_cut e = rw (e, counted) refl
 
-  pub counted_all : whole packed ≡ true → counted packed ≡ Patterns (length (patterns packed))
+  pub counted_all : whole packed ≡ true → counted packed ≡ Some (length (patterns packed))
   unfolding counted
   counted_all e = rw (e, counted) refl
 
   -- And back.
-  pub counted_is_cut : counted packed ≡ Cut → whole packed ≡ false
+  pub counted_is_cut : counted packed ≡ None → whole packed ≡ false
   counted_is_cut e = go (whole packed) refl
     where
       go : (b : Bool) → whole packed ≡ b → whole packed ≡ false
       go false h = h
       go true h = let p = counted_all h in let z : ◌≡◌ {A = ℕ} 0 1 = cc in absurd (omega arith)
 
-  pub counted_is_all : {k : ℕ} → counted packed ≡ Patterns k → (whole packed ≡ true) × (k ≡ length (patterns packed))
+  pub counted_is_all : {k : ℕ} → counted packed ≡ Some k → (whole packed ≡ true) × (k ≡ length (patterns packed))
   counted_is_all {k} e = go (whole packed) refl
     where
       go : (b : Bool) → whole packed ≡ b → (whole packed ≡ true) × (k ≡ length (patterns packed))
@@ -81,17 +80,17 @@ module _ (packed : List ℕ) where
   not_packed e ws p = not_both (whole packed) (ap whole (sym p) ∙ whole_packing ws) e
 
   -- What `count` ensures of its answer r.
-  pub ensured : {r : Counted} → r ≡ counted packed
-      → (r ≡ counted packed) × (IfCounted (PackedFrom packed) r × ((r ≡ Cut) ↔ NotPacked packed))
-  ensured {r} e = go r e
-    where
-      go : (r : Counted) → r ≡ counted packed → (r ≡ counted packed) × (IfCounted (PackedFrom packed) r × ((r ≡ Cut) ↔ NotPacked packed))
-      go (Patterns k) e =
-          let all = counted_is_all (sym e) in (
-            e,
-            (
-              packed_from all.0 all.1,
-              (λ c. absurd (let z : ◌≡◌ {A = ℕ} 0 1 = cc in omega arith), λ no. absurd (no (patterns packed) (packing_patterns packed all.0))),
-            ),
-          )
-      go Cut e = (e, (tt, (λ c. not_packed (counted_is_cut (sym e)), λ no. refl)))
+  module _ {r : Option ℕ} (e : r ≡ counted packed) where
+    pub means : IfSome r (PackedFrom packed)
+    means = go r e
+      where
+        go : (r : Option ℕ) → r ≡ counted packed → IfSome r (PackedFrom packed)
+        go (Some k) e = let all = counted_is_all (sym e) in packed_from all.0 all.1
+        go None e = tt
+
+    pub cut_means : (r ≡ None) ↔ NotPacked packed
+    cut_means = (λ n. not_packed (counted_is_cut (sym e ∙ n)), go (whole packed) refl)
+      where
+        go : (b : Bool) → whole packed ≡ b → NotPacked packed → r ≡ None
+        go true all = λ no. absurd (no (patterns packed) (packing_patterns packed all))
+        go false cut = λ no. e ∙ counted_cut cut

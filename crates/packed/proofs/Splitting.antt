@@ -1,13 +1,13 @@
 -- How a packed batch is split at a length byte. Assumes nothing.
-use Prim.Native.Nat.{ℕ, zero, suc, ◌+◌, ◌-◌, ◌≤◌, ◌<◌}
-use mathlib.Core.Path.{◌≡◌, refl, ap}
+use Prim.Native.Nat.{ℕ, zero, suc, ◌≤◌, ◌<◌}
+use mathlib.Core.Path.{◌≡◌, refl, ap, ◌∙◌}
 use mathlib.Core.Bool.{true, false}
 use mathlib.Core.Logic.{⊎_elim}
 use mathlib.Core.List.{List, [], ◌∷◌}
-use native.Mathlib.Numerals.{add-one}
 use native.Mathlib.Omega.{arith}
-use lib.ListN.{length, get_or, take, drop, length-drop, drop_of_length-le}
-use lib.Seq.{drop-cons, drop-drop}
+use lib.ListN.{length, take, drop, length-drop}
+use Rattle.std.specs.List.{slice_range}
+use Rattle.std.proofs.lemmas.List.{nil_from_length, take_all}
 use Rattle.words.proofs.Cases.{less_or, not_both}
 use Rattle.packed.specs.Packed.{patterns_after, whole_after, patterns, whole}
 
@@ -52,33 +52,24 @@ module _ (len : ℕ) (rest : List ℕ) where
       ⊎_elim (λ (a : length rest < len). absurd (not_both (whole (len ∷ rest)) w (whole_cut a))) (λ (a : len ≤ length rest). a)
       (less_or (length rest) len)
 
--- The same at a place of the batch, as code walks it.
-module _ (packed : List ℕ) (at : ℕ) (inside : at < length packed) {len : ℕ} (is : len ≡ get_or packed at 0) where
-  byte_first : drop at packed ≡ len ∷ drop (at + 1) packed
-  byte_first = rw (add-one at, is) (drop-cons packed at 0 inside)
+  -- The same where a slice is read: what is left past the pattern's bytes.
+  module _ {s left : List ℕ} (is : s ≡ len ∷ rest) (room : len ≤ length rest) (left_is : left ≡ slice_range rest len (length rest)) where
+    left_past : left ≡ drop len rest
+    left_past = left_is ∙ take_all _ (drop len rest) (omega (arith, length-drop len rest))
 
-  rest_size : length (drop (at + 1) packed) ≡ length packed - (at + 1)
-  rest_size = length-drop (at + 1) packed
+    pub whole_past_one : whole s ≡ whole left
+    whole_past_one = rw (is, left_past) (whole_cons room)
 
-  pub patterns_at : patterns (drop at packed) ≡ take len (drop (at + 1) packed) ∷ patterns (drop (at + 1 + len) packed)
-  patterns_at = rw (byte_first, ← drop-drop len (at + 1) packed) (patterns_cons len (drop (at + 1) packed))
-
-  pub whole_at : at + 1 + len ≤ length packed → whole (drop at packed) ≡ whole (drop (at + 1 + len) packed)
-  whole_at h = rw (byte_first, ← drop-drop len (at + 1) packed) (whole_cons len (drop (at + 1) packed) (omega (arith, rest_size)))
-
-  pub cut_at : length packed < at + 1 + len → whole (drop at packed) ≡ false
-  cut_at h = rw byte_first (whole_cut len (drop (at + 1) packed) (omega (arith, rest_size)))
-
-  pub room_at : whole (drop at packed) ≡ true → at + 1 + len ≤ length packed
-  room_at w = omega (arith, whole_room len (drop (at + 1) packed) (rw byte_first at w), rest_size)
+    pub patterns_past_one : patterns s ≡ take len rest ∷ patterns left
+    patterns_past_one = rw (is, left_past) patterns_cons
 
 -- ---- Past the last byte
 
-module _ (packed : List ℕ) (at : ℕ) (past : length packed ≤ at) where
-  pub patterns_end : patterns (drop at packed) ≡ []
+module _ (s : List ℕ) (past : length s ≡ 0) where
+  pub patterns_end : patterns s ≡ []
   unfolding patterns patterns_after
-  patterns_end = rw (drop_of_length-le packed past) refl
+  patterns_end = rw (nil_from_length s past) refl
 
-  pub whole_end : whole (drop at packed) ≡ true
+  pub whole_end : whole s ≡ true
   unfolding whole whole_after
-  whole_end = rw (drop_of_length-le packed past) refl
+  whole_end = rw (nil_from_length s past) refl

@@ -1,7 +1,5 @@
 -- Document 02, C-17: a packed order of motifs, here a packed batch of patterns: for each a length byte and its bytes.
-use Rattle.std.specs.Prelude.{ℕ, zero, suc, ◌≡◌, Bool, true, false, List, [], ◌∷◌, ◌++◌, length, take}
-use Rattle.packed.specs.declared.Counted.{Counted}
-use Rattle.packed.specs.declared.Counted.TheVariants.{Patterns, Cut}
+use Rattle.std.specs.Prelude.{ℕ, zero, suc, ◌≡◌, Bool, true, false, List, [], ◌∷◌, ◌++◌, Option, Some, None, length, take}
 
 -- The patterns that begin once n bytes of an earlier one are passed.
 unfoldable pub patterns_after : ℕ → List ℕ → List (List ℕ)
@@ -26,9 +24,10 @@ unfoldable pub whole : List ℕ → Bool
 unfolding whole_after
 whole packed = whole_after 0 packed
 
-unfoldable pub counted : List ℕ → Counted
+-- How many patterns there are, if it is whole.
+unfoldable pub counted : List ℕ → Option ℕ
 unfolding whole patterns
-counted packed = elim (whole packed) [ true ↦ Patterns (length (patterns packed)) | false ↦ Cut ]
+counted packed = elim (whole packed) [ true ↦ Some (length (patterns packed)) | false ↦ None ]
 
 -- The other way round: patterns packed, each as its length and its bytes.
 unfoldable pub packing : List (List ℕ) → List ℕ
@@ -44,8 +43,3 @@ pub record PackedFrom (packed : List ℕ) (k : ℕ) : Type 0 where
 -- They are no patterns packed.
 abbrev pub NotPacked : List ℕ → Type 0
 NotPacked packed = (ws : List (List ℕ)) → packing ws ≡ packed → ⊥
-
--- Where patterns were counted, their number is such.
-abbrev pub IfCounted : (ℕ → Type 0) → Counted → Type 0
-IfCounted P (Patterns k) = P k
-IfCounted P Cut = Unit {0}

@@ -10,20 +10,13 @@ mod sizes;
 mod tables;
 mod whole;
 
-ghost use Rattle.std.specs.Prelude.{◌≡◌, length, replicate};
+ghost use Rattle.std.specs.Prelude.{◌≡◌, length};
 ghost use Rattle.pattern.specs.Built.{zero_pattern, unbuilt, built_from, scratch_with};
 
 pub use classes::CLASSES;
 pub use intake::{LONGEST_PATTERN, SCRATCH};
 use ones::WORDS;
 pub use sizes::RANKS;
-
-// Each entry becomes v.
-pub fn fill(part: &mut [u16], v: u16)
-    ensures filled { part.new ≡ replicate (length part.old) v }
-{
-    part.fill(v);
-}
 
 // Document 01's card: the pattern, its classes and its tables. The entries past those defined are 0.
 #[repr(C)]

@@ -35,9 +35,7 @@ ghost use Rattle.rules.specs.Rules.{text_source};
 ghost use Rattle.search.specs.Answer.{answer_by, list_by, plain_answer_by, plain_list_by};
 ghost use Rattle.search.specs.Promise.{Located, ListedBy, UnderCeiling, UnderKmpCeiling, AsColussi, NoZeroCovered};
 
-use carried::{
-    First, Lengths, Preparation, SearchReport, carry, carry_first, carry_lengths, outcome_number,
-};
+use carried::{First, Lengths, Preparation, SearchReport};
 use pattern::Pattern;
 
 // Each entry v becomes v mod 256: of 256 entries, the classes that give each value itself.
@@ -64,15 +62,17 @@ pub extern "C" fn poqewan_prepare<'a>(
     ensures few { FewCompared (length bytes.now) result.compared }
     ensures plain { classes.now ≡ identity → (result ≡ carried_preparation (plain_prepared bytes.now (length scratch.old))) × (scratch.new ≡ plain_scratch bytes.now scratch.old) }
 {
-    let got = preparation::prepare(bytes, classes, scratch);
-    let pattern = got.pattern;
-    let outcome = got.outcome;
-    let compared = got.compared as u32;
-    let refusal = outcome_number(outcome);
-    Preparation {
-        refusal,
-        compared,
-        pattern,
+    match preparation::prepare(bytes, classes, scratch) {
+        Ok(built) => Preparation {
+            refusal: 0,
+            compared: built.compared as u32,
+            pattern: built.pattern,
+        },
+        Err(why) => Preparation {
+            refusal: u32::from(why.number()),
+            compared: 0,
+            pattern: pattern::zero_pattern(),
+        },
     }
 }
 
@@ -95,7 +95,7 @@ pub extern "C" fn poqewan_colussi(
     ensures zeros { result.refusal ≡ 0 → NoZeroCovered (length (word_of pattern)) text.now positions.new (report_in result) }
     ensures plain { pattern.classes ≡ identity → (result ≡ carried (plain_answer_by colussi pattern text.now cap (length positions.old))) × (positions.new ≡ plain_list_by colussi pattern text.now cap positions.old) }
 {
-    carry(search::colussi(pattern, text, cap, positions))
+    SearchReport::from(search::colussi(pattern, text, cap, positions))
 }
 
 // Searches a text by Knuth, Morris and Pratt, with the same report, endings, refusals and list. Run to its end, it lists what
@@ -117,7 +117,7 @@ pub extern "C" fn poqewan_kmp(
     ensures zeros { result.refusal ≡ 0 → NoZeroCovered (length (word_of pattern)) text.now positions.new (report_in result) }
     ensures plain { pattern.classes ≡ identity → (result ≡ carried (plain_answer_by kmp pattern text.now cap (length positions.old))) × (positions.new ≡ plain_list_by kmp pattern text.now cap positions.old) }
 {
-    carry(search::kmp(pattern, text, cap, positions))
+    SearchReport::from(search::kmp(pattern, text, cap, positions))
 }
 
 // Searches a text in an order of the caller's own, with at most `cap` comparisons: entry i is the place of the pattern that rank i compares. Report,
@@ -141,7 +141,7 @@ pub extern "C" fn poqewan_ordered<'a>(
     ensures zeros { result.refusal ≡ 0 → NoZeroCovered (length (word_of pattern)) text.now positions.new (report_in result) }
     ensures plain { pattern.classes ≡ identity → (result ≡ carried (orders.plain_answer_of pattern order.now text.now cap (length positions.old))) × (positions.new ≡ orders.plain_list_of pattern order.now text.now cap positions.old) }
 {
-    carry(ordered::ordered(pattern, order, text, cap, positions))
+    SearchReport::from(ordered::ordered(pattern, order, text, cap, positions))
 }
 
 // Searches a text in Colussi's order, with at most `cap` comparisons, and writes an entry of the journal for each: twice its position in the text,
@@ -168,7 +168,7 @@ pub extern "C" fn poqewan_journaled(
     ensures zeros { result.refusal ≡ 0 → NoZeroCovered (length (word_of pattern)) text.now positions.new (report_in result) }
     ensures plain { pattern.classes ≡ identity → (result ≡ carried (journals.plain_answer_of pattern text.now cap (length positions.old) (length journal.old))) × (positions.new ≡ journals.plain_list_of pattern text.now cap (length journal.old) positions.old) × (journal.new ≡ journals.plain_journal_in pattern text.now cap (length positions.old) journal.old) }
 {
-    carry(journaled::journaled(pattern, text, cap, positions, journal))
+    SearchReport::from(journaled::journaled(pattern, text, cap, positions, journal))
 }
 
 // Follows the search for a pattern in a text of n bytes by a journal of its comparisons, without the text: an odd entry says that they were equal. Where
@@ -192,7 +192,7 @@ pub extern "C" fn poqewan_replay<'a>(
     ensures ceiling { result.refusal ≡ 0 → UnderCeiling (length (word_of pattern)) n (report_in result) }
     ensures plain { pattern.classes ≡ identity → (result ≡ carried (replays.plain_answer_of pattern n journal.now (length positions.old))) × (positions.new ≡ replays.plain_list_of pattern n journal.now positions.old) }
 {
-    carry(replay::replay(pattern, n, positions, journal))
+    SearchReport::from(replay::replay(pattern, n, positions, journal))
 }
 
 // Searches a text in Colussi's order, without a cap, up to the first position where the pattern occurs. Refused, in this order: a pattern that
@@ -206,7 +206,7 @@ pub extern "C" fn poqewan_find_first(pattern: Pattern, text: &[u8]) -> First
     ensures zeros { result.refusal ≡ 0 → FirstCoversNoZero (length (word_of pattern)) text.now (first_in result) }
     ensures plain { pattern.classes ≡ identity → result ≡ carried_first (plain_first_by pattern text.now) }
 {
-    carry_first(first::find_first(pattern, text))
+    First::from(first::find_first(pattern, text))
 }
 
 // Writes the length of the longest prefix of the pattern that begins at each position of a text into the list's entry for it. The entries past them
@@ -226,7 +226,7 @@ pub extern "C" fn poqewan_prefix_lengths(
     ensures kmp { result.refusal ≡ 0 → AsKmp (word_of pattern) (text_of pattern text.now) }
     ensures plain { pattern.classes ≡ identity → (result ≡ carried_lengths (plain_answer_of pattern text.now (length lengths.old))) × (lengths.new ≡ plain_list_of pattern text.now lengths.old) }
 {
-    carry_lengths(lengths::prefix_lengths(pattern, text, lengths))
+    Lengths::from(lengths::prefix_lengths(pattern, text, lengths))
 }
 
 // The charge of a count of comparisons: its started thousands.

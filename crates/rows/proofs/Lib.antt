@@ -1,3 +1,2 @@
 -- The laws behind the functions' proofs and their callers', a module an idea; a module uses those above it.
-pub mod Starting
 pub mod InTurn

@@ -1,11 +1,9 @@
 -- Document 02, C-17: the four numbers that a sheet, here rows, gains for each search.
-use Rattle.std.specs.Prelude.{ℕ, ◌+◌, true, false, List, [], ◌∷◌, ◌++◌, leb, length, drop}
+use Rattle.std.specs.Prelude.{ℕ, ◌+◌, true, false, List, [], ◌∷◌, ◌++◌, leb, length, drop, Result, Ok, Err}
 use Rattle.endings.specs.Endings.{ending_number, ending_window}
 use Rattle.refusal.specs.Numbers.{number_of}
 use Rattle.refusal.specs.declared.Refusal.{Refusal}
 use Rattle.rules.specs.declared.Report.{Report}
-use Rattle.search.specs.declared.SearchAnswer.{SearchAnswer}
-use Rattle.search.specs.declared.SearchAnswer.TheVariants.{Ran, Refused}
 use Rattle.rows.specs.declared.Row.{Row}
 
 -- The numbers of a row.
@@ -20,9 +18,9 @@ ran_row r = record { ending = ending_number r.ending; written = r.written; count
 abbrev pub refused_row : Refusal → Row
 refused_row why = record { ending = 10 + number_of why; written = 0; count = 0; window = 0 }
 
-abbrev pub row_of : SearchAnswer → Row
-row_of (Ran r) = ran_row r
-row_of (Refused why) = refused_row why
+abbrev pub row_of : Result Report Refusal → Row
+row_of (Ok r) = ran_row r
+row_of (Err why) = refused_row why
 
 -- A row as it stands in a list.
 abbrev pub numbers : Row → List ℕ

@@ -8,7 +8,6 @@ ghost use Rattle.rows.specs.Row.{ran_row, refused_row, row_of, numbers, starting
 use endings::{ending_number, ending_window};
 use refusal::Refusal;
 use rules::Report;
-use search::SearchAnswer;
 
 // The numbers of a row.
 pub const ROW: usize = 4;
@@ -24,48 +23,51 @@ pub struct Row {
     pub window: usize,
 }
 
-fn ran(report: Report) -> Row
-    ensures { result ≡ ran_row report }
-{
-    let ending = report.ending;
-    Row {
-        ending: ending_number(ending) as u64,
-        written: report.written,
-        count: report.count,
-        window: ending_window(ending),
+impl From<Report> for Row {
+    ghost from_gives = { λ report row. row ≡ ran_row report };
+
+    fn from(report: Report) -> Self {
+        Row {
+            ending: u64::from(ending_number(report.ending)),
+            written: report.written,
+            count: report.count,
+            window: ending_window(report.ending),
+        }
     }
 }
 
-fn refused(why: Refusal) -> Row
-    ensures { result ≡ refused_row why }
-{
-    Row {
-        ending: REFUSED + why.number() as u64,
-        written: 0,
-        count: 0,
-        window: 0,
+impl From<Refusal> for Row {
+    ghost from_gives = { λ why row. row ≡ refused_row why };
+
+    fn from(why: Refusal) -> Self {
+        Row {
+            ending: REFUSED + u64::from(why.number()),
+            written: 0,
+            count: 0,
+            window: 0,
+        }
     }
 }
 
 // The row of a search's answer. Of a refusal the last three numbers are 0.
-pub fn row_of(answer: SearchAnswer) -> Row
-    ensures answer { result ≡ row_of answer }
-{
-    match answer {
-        SearchAnswer::Ran(report) => ran(report),
-        SearchAnswer::Refused(why) => refused(why),
+impl From<Result<Report, Refusal>> for Row {
+    ghost from_gives = { λ answer row. row ≡ row_of answer };
+
+    fn from(answer: Result<Report, Refusal>) -> Self {
+        match answer {
+            Ok(report) => Row::from(report),
+            Err(why) => Row::from(why),
+        }
     }
 }
 
 // Puts a row at the start of a list; the entries after it are unchanged. A list with fewer than four entries is unchanged.
+#[tactic(auto, unfolding(crate::specs::Row::starting_with))]
 pub fn put(rows: &mut [u64], row: Row)
     ensures list { rows.new ≡ starting_with (numbers row) rows.old }
 {
     if rows.len() < ROW {
         return;
     }
-    rows[0] = row.ending;
-    rows[1] = row.written as u64;
-    rows[2] = row.count;
-    rows[3] = row.window as u64;
+    rows[..ROW].copy_from_slice(&[row.ending, row.written as u64, row.count, row.window as u64]);
 }

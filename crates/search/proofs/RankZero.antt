@@ -1,12 +1,11 @@
 -- Windows that miss at rank 0, as a search by the rules passes them. Assumes nothing.
 use Prim.Native.Nat.{ℕ, zero, suc, ◌+◌, ◌-◌, ◌≤◌, ◌<◌}
-use mathlib.Core.Path.{◌≡◌, refl, sym, ap, ◌∙◌}
+use mathlib.Core.Path.{◌≡◌, refl, sym, ◌∙◌}
 use mathlib.Core.Logic.{⊎_elim}
 use mathlib.Core.Bool.{Bool, true, false}
 use mathlib.Core.List.{List, ◌∷◌}
 use native.Mathlib.Omega.{arith}
 use lib.ListN.{length, get_or}
-use borrow.Author.Count.{below_more}
 use borrow.Author.Tests.{eq-eqb, ne_eqb}
 use Rattle.words.specs.Tables.{letter}
 use Rattle.words.proofs.Cases.{less_or}
@@ -18,72 +17,7 @@ use Rattle.rules.proofs.Rules.{Moving, edge_kept}
 use Rattle.rules.proofs.Passing.{passes_nothing, passes_on, passes_matched, passes_missed}
 use Rattle.rules.proofs.Following.{Ranges}
 use Rattle.rules.proofs.Scans.{Scans, scans_on}
-use Rattle.search.specs.Internal.RankZero.{Skips, Ahead}
-
--- ---- In the terms of the code
-
--- No place from a on and below p holds x.
-pub record Passed (text : List ℕ) (x a p : ℕ) : Type 0 where
-  pub none : (k : ℕ) → k < p → a ≤ k → letter text k ≡ x → ⊥
-
-module _ {text : List ℕ} {x a p : ℕ} (P : Passed text x a p) where
-  -- Nor does p.
-  pub passed_one : {q : ℕ} → q ≡ p + 1 → (x ≡ letter text p → ⊥) → Passed text x a q
-  passed_one e miss = record { none = rw e (below_more _ p P.none (λ h same. miss (sym same))) }
-
-  -- A skip ends there, or goes on from there.
-  pub skips_to : {b : ℕ} → a ≤ p → p < b → x ≡ letter text p → Skips text x a b p
-  skips_to l h is = record { from = l; upto = omega arith; passed = λ k g below. P.none k below g; found = λ _. sym is }
-
-  pub skips_on : {b r : ℕ} → a ≤ p → Skips text x p b r → Skips text x a b r
-  skips_on l S = record {
-    from = omega (arith, S.from);
-    upto = S.upto;
-    passed = λ k g below. ⊎_elim (λ (h : k < p). P.none k h g) (λ (h : p ≤ k). S.passed k h below) (less_or k p);
-    found = S.found;
-  }
-
--- Window b matches at once.
-pub ahead_at_once : (text : List ℕ) (x o last b left : ℕ) → b ≤ last → 1 ≤ left → get_or text (b + o) 0 ≡ x → Ahead text x o last b left b 1 (left - 1)
-ahead_at_once text x o last b left inside more is = record {
-  from = omega arith;
-  upto = omega arith;
-  missed = λ v l h. absurd (omega arith);
-  rank = omega arith;
-  matched = λ _. (inside, is);
-  spent = omega arith;
-}
-
--- Window b misses, and the skip from there ends at p, with room for that many windows and comparisons more.
-module _ (text : List ℕ) (x o last b left room p k : ℕ) (miss : get_or text (b + o) 0 ≡ x → ⊥) (windows : b + room ≤ last) (comparisons : room < left)
-    (S : Skips text x (b + o + 1) (b + o + 1 + room) p) (at : p ≡ b + o + k) where
-  passed : (v : ℕ) → b ≤ v → v < b + k → get_or text (v + o) 0 ≡ x → ⊥
-  passed v l h q = ⊎_elim
-      (λ (a : b < v). S.passed (v + o) (omega arith) (omega arith) q)
-      (λ (a : v ≤ b). miss (ap (λ u. get_or text u 0) (omega arith) ∙ q))
-      (less_or b v)
-
-  pub ahead_matched : k ≤ room → Ahead text x o last b left (b + k) 1 (left - 1 - k)
-  ahead_matched l = record {
-    from = omega arith;
-    upto = omega arith;
-    missed = passed;
-    rank = omega arith;
-    matched = λ _. (omega arith, ap (λ u. get_or text u 0) (omega arith) ∙ S.found (omega arith));
-    spent = omega arith;
-  }
-
-  pub ahead_missed : room < k → Ahead text x o last b left (b + k) 0 (left - k)
-  ahead_missed l = record {
-    from = omega arith;
-    upto = omega (arith, S.upto);
-    missed = passed;
-    rank = omega arith;
-    matched = λ one. absurd (omega arith);
-    spent = omega (arith, S.upto);
-  }
-
--- ---- In the terms of the rules
+use Rattle.search.specs.Internal.RankZero.{Ahead}
 
 -- A plan that leaves a window which misses at rank 0 by 1, for rank 0 again, and with the edge as it was. The place compared at rank 0 does not
 -- pass q: the column of q stays as it is.

@@ -20,7 +20,7 @@ pub struct ByPlace {
     pub belows: [u16; RANKS],
 }
 
-// They come from the tables by rank, where the noholes stand in ascending order, before the holes.
+// The tables by place of a pattern. They come from its tables by rank, where the noholes stand in ascending order, before the holes.
 pub fn by_place(pattern: &Pattern) -> ByPlace
     requires { (pattern.now.noholes ≤ pattern.now.len) × (pattern.now.len ≤ longest_pattern) }
     ensures { TablesOf pattern.now.order pattern.now.shift pattern.now.len pattern.now.noholes result.shifts result.belows }

@@ -1,8 +1,8 @@
 // Windows that miss at rank 0, in a search that leaves such a window by 1, for rank 0 again: a scan of the text for one letter. Both searches
 // pass them so.
-ghost use Rattle.std.specs.Prelude.{◌≡◌, ◌+◌, ◌^◌, ◌≤◌, ◌<◌, length};
+ghost use Rattle.std.specs.Prelude.{◌≡◌, ◌+◌, ◌^◌, ◌≤◌, ◌<◌, length, MatchOption};
 ghost use Rattle.classes.specs.Classes.{through};
-ghost use Rattle.search.specs.Internal.RankZero.{Skips, Ahead};
+ghost use Rattle.search.specs.Internal.RankZero.{Passed, FirstAt, Ahead};
 
 use super::compare::Text;
 
@@ -15,41 +15,29 @@ pub struct Spot {
 }
 
 impl<'a> Text<'a> {
-    // The first place from `from` on and below `end` that has the letter x, and `end` where none does.
-    fn skip_ones(self, x: u8, from: usize, end: usize) -> usize
+    // The first place from `from` on and below `end` that has the letter x. By fours as long as four are left: what a loop does beside comparing, it
+    // does once for four.
+    fn skip(self, x: u8, from: usize, end: usize) -> Option<usize>
         requires { (from ≤ end) × (end ≤ length self.bytes.now) }
-        ensures { Skips (through self.entry.classes.now self.entry.bytes.now) x from end result }
-    {
-        for p in from..end {
-            if self.agrees(x, p) {
-                return p;
-            }
-        }
-        end
-    }
-
-    // The same, by fours as long as four are left: what a loop does beside comparing, it does once for four.
-    fn skip(self, x: u8, from: usize, end: usize) -> usize
-        requires { (from ≤ end) × (end ≤ length self.bytes.now) }
-        ensures { Skips (through self.entry.classes.now self.entry.bytes.now) x from end result }
+        ensures { let text = through self.entry.classes.now self.entry.bytes.now in MatchOption result (Passed text x from end) (λ p. FirstAt text x from end p) }
     {
         let mut p = from;
         while 4 <= end - p {
             if self.agrees(x, p) {
-                return p;
+                return Some(p);
             }
             if self.agrees(x, p + 1) {
-                return p + 1;
+                return Some(p + 1);
             }
             if self.agrees(x, p + 2) {
-                return p + 2;
+                return Some(p + 2);
             }
             if self.agrees(x, p + 3) {
-                return p + 3;
+                return Some(p + 3);
             }
             p += 4;
         }
-        self.skip_ones(x, p, end)
+        (p..end).find(|q| self.agrees(x, *q))
     }
 
     // From rank 0 of window b, where x is due at place o: past the windows that miss, to rank 1 of the first that does not. It stops at rank 0
@@ -74,18 +62,17 @@ impl<'a> Text<'a> {
             };
         }
         let room = (left - 1).min((last - b) as u64) as usize;
-        let k = self.skip(x, from + 1, from + 1 + room) - from;
-        if k <= room {
-            return Spot {
-                window: b + k,
+        match self.skip(x, from + 1, from + 1 + room) {
+            Some(place) => Spot {
+                window: place - o,
                 rank: 1,
-                left: left - 1 - k as u64,
-            };
-        }
-        Spot {
-            window: b + k,
-            rank: 0,
-            left: left - k as u64,
+                left: left - 1 - (place - from) as u64,
+            },
+            None => Spot {
+                window: b + 1 + room,
+                rank: 0,
+                left: left - 1 - room as u64,
+            },
         }
     }
 }

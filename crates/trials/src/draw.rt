@@ -5,7 +5,7 @@ use crate::judge::LIST;
 use pattern::LONGEST_PATTERN;
 
 // 2^32, and two odd numbers below it.
-const HALF: u64 = 4294967296;
+const HALF: u64 = 1 << 32;
 
 const FIRST: u64 = 2654435769;
 
@@ -42,10 +42,12 @@ fn size(stream: u64, i: u64) -> usize
     ensures { (0 < result) × (result ≤ 256) }
 {
     let x = number(stream, i);
-    if x % 2 == 0 {
-        return 1 + (x / 2 % SHORT) as usize;
-    }
-    1 + (x / 2 % LONGEST_PATTERN as u64) as usize
+    let most = if x % 2 == 0 {
+        SHORT
+    } else {
+        LONGEST_PATTERN as u64
+    };
+    1 + (x / 2 % most) as usize
 }
 
 // Fills with pieces of a word that is read in a circle, each from a random place on and with random changes to the bits of the mask.

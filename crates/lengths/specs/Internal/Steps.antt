@@ -1,8 +1,14 @@
 -- The steps of a scan: what each has found, and what it has written into the list.
 use Rattle.std.specs.Prelude.{ℕ, suc, ◌+◌, ◌-◌, ◌≤◌, ◌<◌, min, ◌≡◌, ◌⊎◌, List, length, get_or, drop}
 use Rattle.words.specs.Tables.{letter}
+use Rattle.classes.specs.Classes.{through}
 use Rattle.hmax.specs.Table.{HasHmax}
 use Rattle.intake.specs.Sizes.{longest_pattern}
+use Rattle.lengths.specs.declared.steps.Text.{Text}
+
+-- The letters of a text.
+abbrev pub letters_of : Text → List ℕ
+letters_of text = through text.classes.now text.bytes.now
 
 -- The letters of a pattern, and a table of hmax for them.
 pub record Tables (w table : List ℕ) : Type 0 where

@@ -1,7 +1,8 @@
--- The pairs that are left decide with those tested as all do.
-use Rattle.std.proofs.Common.{◌≡◌, ◌&&◌, take}
-use Rattle.lists.specs.Lists.{ascends}
+-- The test so far: whether the first i entries ascend. Where none is in use, i stays 1.
+use Rattle.std.proofs.Common.{◌≡◌, ◌≤◌, ◌-◌, max}
+use Rattle.words.specs.Numbers.{every}
+use Rattle.lists.proofs.Ascending.{rises}
 use Rattle.lists.proofs.in_order.Given as goal
 
-abbrev pub invariant-loop-pair : goal.invariant-loop-pair
-invariant-loop-pair l = (l.pair-iterator.size ≡ 2) × ((l.rises && ascends l.pair-iterator.rest.now) ≡ ascends (take l.used l.list))
+abbrev pub invariant-loop-i : goal.invariant-loop-i
+invariant-loop-i l = (l.i ≤ max 1 l.used) × (l.rises ≡ every (l.i - 1) (rises l.list))

@@ -1,10 +1,9 @@
-use Rattle.std.proofs.Common.{◌≡◌, ℕ, ◌+◌, ◌-◌, ◌≤◌, List, ◌++◌, length, take, rules, sym, ap, ◌∙◌, subst}
+use Rattle.std.proofs.Common.{◌≡◌, ℕ, ◌+◌, ◌-◌, ◌≤◌, List, ◌++◌, length, take, rules, arith, sym, ap, ◌∙◌, subst}
 use Rattle.std.proofs.lemmas.List.{length-take-le, take-append-le}
 use Rattle.std.proofs.Math.Seq.{take-append-add}
 use Rattle.std.specs.Io.KnownBytes.{Consumes}
 use Rattle.std.proofs.KnownBytes.{Consumes-trans}
 use borrow.Rule.Slice.PartMut.{put_mid, post_of}
-use Rattle.motif.specs.Piece.{IsPieceOf}
 use Rattle.motif.proofs.read_all.Goals as goal
 
 -- The front of a buffer grows by what stands at the start of the part behind it.
@@ -19,6 +18,6 @@ take_more n more buf part within fits =
 pub loop-n-preserved : goal.loop-n-preserved
 loop-n-preserved g c =
     let before = c.loop-n.invariant in
-    let piece = subst (IsPieceOf _ _ c.read_some.new.part) c.in-More.is c.in_ok-more.ensures in
-    let joined = take_more c.loop-n.n c.in-More.more c.loop-n.buf c.read_some.new.part before.1 piece.1 in
-    (search rules, search rules, subst (Consumes _ _) joined (Consumes-trans _ _ _ _ _ before.2 piece.2))
+    let read = c.in_ok-more.ensures in
+    let joined = take_more c.loop-n.n c.in_ok-more.more c.loop-n.buf c.read.new.buf before.1 (omega (arith, read.bound)) in
+    (search rules, search rules, subst (Consumes _ _) joined (Consumes-trans _ _ _ _ _ before.2 read.bytes.0))

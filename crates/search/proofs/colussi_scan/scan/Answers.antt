@@ -69,12 +69,11 @@ ahead-spot-requires c =
 
 pub loop-b-smaller-then-b-last : goal.loop-b-smaller-then-b-last
 loop-b-smaller-then-b-last c =
-    omega (
-      arith,
-      missed-less (goal.at.loop-b-smaller-then-b-last c).After-leave-after,
-      no_more c.args.pattern.now.len (length (through c.args.pattern.now.classes c.args.text.now)) c.leave-after.result.window c.leave-after.result.rank
-          c.ahead-spot.result.window c.ahead-spot.result.rank c.if-i-eq0.true c.ahead-spot.ensures.from,
-    )
+    let n = length (through c.args.pattern.now.classes c.args.text.now) in
+    let spot = c.ahead-spot.result in
+    let stays = no_more c.args.pattern.now.len n c.leave-after.result.window c.leave-after.result.rank spot.window spot.rank
+    c.if-i-eq0.true c.ahead-spot.ensures.from in
+    omega (arith, missed-less (goal.at.loop-b-smaller-then-b-last c).After-leave-after, stays)
 
 pub loop-b-preserved-then-b-last : goal.loop-b-preserved-then-b-last
 loop-b-preserved-then-b-last c =
@@ -123,4 +122,5 @@ ended-requires-2 c = omega (arith, within_cap c.loop-b.invariant)
 
 pub returns : goal.returns
 returns c =
-    rw c.ended-2.ensures (reports_colussi _ _ _ (scan_done _ _ _ _ c.requires.lent.order c.loop-b.invariant (past_text _ _ c.if-text-m.false c.loop-b-test.false)))
+    let past = past_text _ _ c.if-text-m.false c.loop-b-test.false in
+    rw c.ended-2.ensures (reports_colussi _ _ _ (scan_done _ _ _ _ c.requires.lent.order c.loop-b.invariant past))

@@ -14,7 +14,8 @@ use Rattle.search.proofs.first_scan.scan.Goals.{After-leave-after}
 missed : (c : After-leave-after)
     → (let pattern = c.args.pattern.now in
     let after = c.leave-after.result in
-    ScansUpTo c.args.letters.now pattern.len pattern.noholes (through pattern.classes c.args.text.now) after.window after.rank after.edge (c.loop-b.left - 1))
+    ScansUpTo c.args.letters.now pattern.len pattern.noholes (through pattern.classes c.args.text.now) after.window after.rank after.edge
+    (c.loop-b.left - 1))
 missed c =
     let T = c.requires.lent.order in
     let D = due_place _ _ _ _ T c.due.ensures c.if-due.true c.from-o.ensures in
@@ -65,18 +66,18 @@ ahead-spot-requires c =
 
 pub loop-b-smaller-then-b-last : goal.loop-b-smaller-then-b-last
 loop-b-smaller-then-b-last c =
-    omega (
-      arith,
-      missed-less (goal.at.loop-b-smaller-then-b-last c).After-leave-after,
-      no_more c.args.pattern.now.len (length (through c.args.pattern.now.classes c.args.text.now)) c.leave-after.result.window c.leave-after.result.rank
-          c.ahead-spot.result.window c.ahead-spot.result.rank c.if-i-eq0.true c.ahead-spot.ensures.from,
-    )
+    let n = length (through c.args.pattern.now.classes c.args.text.now) in
+    let spot = c.ahead-spot.result in
+    let stays = no_more c.args.pattern.now.len n c.leave-after.result.window c.leave-after.result.rank spot.window spot.rank
+    c.if-i-eq0.true c.ahead-spot.ensures.from in
+    omega (arith, missed-less (goal.at.loop-b-smaller-then-b-last c).After-leave-after, stays)
 
 pub loop-b-preserved-then-b-last : goal.loop-b-preserved-then-b-last
 loop-b-preserved-then-b-last c =
     let n = length_through c.args.pattern.now.classes c.args.text.now in
-    upto_ahead _ _ _ _ c.requires.lent.order _ (omega (arith, n)) (missed (goal.at.loop-b-preserved-then-b-last c).After-leave-after) c.ahead-spot.ensures
-    (omega (arith, n)) c.if-i-eq0.true c.if-d-gt0.true c.from-first.ensures refl
+    let at = missed (goal.at.loop-b-preserved-then-b-last c).After-leave-after in
+    upto_ahead _ _ _ _ c.requires.lent.order _ (omega (arith, n)) at c.ahead-spot.ensures (omega (arith, n)) c.if-i-eq0.true c.if-d-gt0.true
+    c.from-first.ensures refl
 
 pub loop-b-smaller : goal.loop-b-smaller
 loop-b-smaller c = missed-less (goal.at.loop-b-smaller c).After-leave-after

@@ -13,9 +13,11 @@ use Rattle.search.proofs.kmp_scan.scan.Goals.{After-new_noholes-q, Else-k-positi
 -- The window is left at a mismatch.
 missed : (c : After-new_noholes-q)
     → ScansByPlace c.args.letters.now c.args.pattern.now.len (through c.args.pattern.now.classes c.args.text.now) c.args.cap c.args.positions.now
-    c.loop-b.positions (c.loop-b.b + c.from-s.result) c.saturating_sub-kept.result (c.loop-b.left - 1) (c.loop-b.q + c.new_noholes-q.result) c.loop-b.k
+    c.loop-b.positions (c.loop-b.b + c.from-s.result) c.saturating_sub-kept.result (c.loop-b.left - 1) (c.loop-b.q + c.new_noholes-q.result)
+    c.loop-b.k
 missed c =
-    scan_missed _ _ _ _ (omega arith) c.requires.tables c.loop-b.invariant (in_text _ _ c.if-text-m.false c.loop-b-test.true) c.if-i-m.true c.if-left-eq0.false
+    let fits = in_text _ _ c.if-text-m.false c.loop-b-test.true in
+    scan_missed _ _ _ _ (omega arith) c.requires.tables c.loop-b.invariant fits c.if-i-m.true c.if-left-eq0.false
     (c.agrees.ensures.no c.if-agrees.false) _ c.from-s.ensures c.saturating_sub-kept.ensures c.new_noholes-q.ensures
 
 missed-less : (c : After-new_noholes-q)
@@ -32,7 +34,8 @@ listed : (c : Else-k-positions)
     (set c.loop-b.positions c.loop-b.k c.loop-b.b) (c.loop-b.b + c.from-step.result) c.saturating_sub-again.result c.loop-b.left
     (c.loop-b.q + c.new_noholes-gained.result) (c.loop-b.k + 1)
 listed c =
-    scan_listed _ _ _ _ (omega arith) c.requires.tables c.loop-b.invariant (in_text _ _ c.if-text-m.false c.loop-b-test.true) c.if-i-m.false c.if-k-positions.false
+    let fits = in_text _ _ c.if-text-m.false c.loop-b-test.true in
+    scan_listed _ _ _ _ (omega arith) c.requires.tables c.loop-b.invariant fits c.if-i-m.false c.if-k-positions.false
     refl _ c.from-step.ensures c.saturating_sub-again.ensures c.new_noholes-gained.ensures
 
 pub returns-then-text-m : goal.returns-then-text-m
@@ -56,12 +59,14 @@ ended-requires c = omega (arith, within_cap _ _ _ _ (omega arith) c.requires.tab
 
 pub returns-then-left-eq0 : goal.returns-then-left-eq0
 returns-then-left-eq0 c =
-    rw c.ended.ensures (scan_spent _ _ _ _ (omega arith) c.requires.tables c.loop-b.invariant (in_text _ _ c.if-text-m.false c.loop-b-test.true) c.if-i-m.true
+    let fits = in_text _ _ c.if-text-m.false c.loop-b-test.true in
+    rw c.ended.ensures (scan_spent _ _ _ _ (omega arith) c.requires.tables c.loop-b.invariant fits c.if-i-m.true
     c.if-left-eq0.true)
 
 pub loop-b-preserved-then-agrees : goal.loop-b-preserved-then-agrees
 loop-b-preserved-then-agrees c =
-    scan_matched _ _ _ _ (omega arith) c.requires.tables c.loop-b.invariant (in_text _ _ c.if-text-m.false c.loop-b-test.true) c.if-i-m.true c.if-left-eq0.false
+    let fits = in_text _ _ c.if-text-m.false c.loop-b-test.true in
+    scan_matched _ _ _ _ (omega arith) c.requires.tables c.loop-b.invariant fits c.if-i-m.true c.if-left-eq0.false
     (c.agrees.ensures.yes c.if-agrees.true)
 
 pub new_noholes-q-requires : goal.new_noholes-q-requires
@@ -73,12 +78,11 @@ overflow_add-q c = omega (arith, column_upto (missed (goal.at.overflow_add-q c).
 
 pub loop-b-smaller-then-b-last : goal.loop-b-smaller-then-b-last
 loop-b-smaller-then-b-last c =
-    omega (
-      arith,
-      missed-less (goal.at.loop-b-smaller-then-b-last c).After-new_noholes-q,
-      no_more c.args.pattern.now.len (length (through c.args.pattern.now.classes c.args.text.now)) (c.loop-b.b + c.from-s.result) c.saturating_sub-kept.result
-          c.ahead-spot.result.window c.ahead-spot.result.rank c.if-i-eq0.true c.ahead-spot.ensures.from,
-    )
+    let n = length (through c.args.pattern.now.classes c.args.text.now) in
+    let spot = c.ahead-spot.result in
+    let stays = no_more c.args.pattern.now.len n (c.loop-b.b + c.from-s.result) c.saturating_sub-kept.result spot.window spot.rank
+    c.if-i-eq0.true c.ahead-spot.ensures.from in
+    omega (arith, missed-less (goal.at.loop-b-smaller-then-b-last c).After-new_noholes-q, stays)
 
 pub loop-b-preserved-then-b-last : goal.loop-b-preserved-then-b-last
 loop-b-preserved-then-b-last c =
@@ -96,8 +100,9 @@ ended-requires-then-k-positions c = omega (arith, within_cap _ _ _ _ (omega arit
 
 pub returns-then-k-positions : goal.returns-then-k-positions
 returns-then-k-positions c =
+    let fits = in_text _ _ c.if-text-m.false c.loop-b-test.true in
     rw c.ended-then-k-positions.ensures (scan_full _ _ _ _ (omega arith) c.requires.tables c.loop-b.invariant
-    (in_text _ _ c.if-text-m.false c.loop-b-test.true) c.if-i-m.false c.if-k-positions.true)
+    fits c.if-i-m.false c.if-k-positions.true)
 
 pub overflow_add-q-else-i-m : goal.overflow_add-q-else-i-m
 overflow_add-q-else-i-m c = omega (arith, column_upto (listed c).scans)

@@ -1,7 +1,7 @@
 -- No place passed holds x. The measure is what is left.
 use Rattle.std.proofs.Common.{◌≤◌, ◌-◌}
 use Rattle.classes.specs.Classes.{through}
-use Rattle.search.proofs.RankZero.{Passed}
+use Rattle.search.specs.Internal.RankZero.{Passed}
 use Rattle.search.proofs.compare.Text.skip.Given as goal
 
 abbrev pub invariant-loop-p : goal.invariant-loop-p

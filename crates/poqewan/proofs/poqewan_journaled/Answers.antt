@@ -1,0 +1,24 @@
+-- What `journaled::journaled` promises of its answer holds of the answer carried.
+use mathlib.Core.Path.{refl, ap, ◌∙◌}
+use Rattle.carried.specs.Carried.{carried}
+use Rattle.carried.proofs.Carrying.{promised_to_c}
+use Rattle.poqewan.proofs.poqewan_journaled.Goals as goal
+
+pub returns : goal.returns
+returns c =
+    let a = c.journaled.result in
+    let S = c.journaled.ensures in
+    let C = c.from.ensures in
+    record {
+      answer = C ∙ ap carried S.answer;
+      list = S.list;
+      journal = S.journal;
+      same = λ l. let same = S.same l in (C ∙ ap carried same.0, same.1);
+      entries = promised_to_c _ a C S.entries;
+      accurate = promised_to_c _ a C S.accurate;
+      classed = promised_to_c _ a C S.classed;
+      columns = promised_to_c _ a C S.columns;
+      ceiling = promised_to_c _ a C S.ceiling;
+      zeros = promised_to_c _ a C S.zeros;
+      plain = λ e. let plain = S.plain e in (C ∙ ap carried plain.0, plain.1, plain.2);
+    }
