@@ -16,7 +16,7 @@ ghost use Rattle.search.specs.Internal.ColussiScan.{DueAt};
 ghost use Rattle.search.specs.Internal.Letters.{LettersOf};
 
 use columns::with_holes;
-use pattern::{CLASSES, Pattern};
+use pattern::{CLASSES, LONGEST_PATTERN, Pattern};
 use rules::{Ending, Report};
 
 // Whether a comparison is due at rank i of window b: it is not past the last rank, nor where the text is known.
@@ -48,7 +48,7 @@ fn ended(ending: Ending, c: usize, h: usize, i: usize, d: usize, k: usize) -> Re
 // The whole text.
 pub fn scan(
     pattern: &Pattern,
-    letters: &[u8],
+    letters: &[u8; LONGEST_PATTERN],
     text: &[u8],
     cap: usize,
     positions: &mut [u32],

@@ -5,14 +5,10 @@ use mathlib.Core.List.{List, [], ◌∷◌, ◌++◌}
 use native.Mathlib.Omega.{arith}
 use lib.ListN.{length, take}
 use lib.Seq.{take-length}
-use Rattle.std.specs.Prelude.{true, false, Option, Some, None, is_some}
 use Rattle.checked.specs.Check.{IsPrepared}
 use Rattle.checked.proofs.Reading.{fields_of}
 use Rattle.pattern.specs.Letters.{word_of}
 use Rattle.pattern.specs.declared.Pattern.{Pattern}
-use Rattle.journal.specs.Replay.{accepted}
-use Rattle.rules.specs.declared.Report.{Report}
-use Rattle.replay.proofs.Scanning.{Told}
 use Rattle.search.specs.Internal.ColussiScan.{LentOrder, LentMoves}
 use Rattle.search.proofs.LentTables.{order_of, moves_of}
 
@@ -30,13 +26,3 @@ module _ (p : Pattern) (G : IsPrepared p) where
 pub nothing_written : (part rest : List ℕ) → length part ≡ 0 → part ++ rest ≡ rest
 nothing_written [] rest e = refl
 nothing_written (x ∷ part) rest e = absurd (omega arith)
-
--- A pass that tells a report accepts the journal, and one that tells none does not.
-module _ (w : List ℕ) (n size : ℕ) (journal before after : List ℕ) where
-  pub some_accepts : (answer : Option Report) → Told w n size journal before after answer → is_some answer ≡ true → accepted w n journal size ≡ true
-  some_accepts None told some = cc
-  some_accepts (Some r) told some = told.accepts
-
-  pub none_refuses : (answer : Option Report) → Told w n size journal before after answer → is_some answer ≡ false → accepted w n journal size ≡ false
-  none_refuses None told none = told
-  none_refuses (Some r) told none = cc

@@ -1,30 +1,18 @@
 -- The scan goes by the rules: each turn keeps the loop's state that of the search, and each end reports it and leaves its journal.
-use Rattle.std.proofs.Common.{◌≡◌, ℕ, ◌+◌, ◌-◌, ◌*◌, ◌<◌, ◌≤◌, ◌⊎◌, refl, sym, arith, inl, ◌∙◌, List, length, take, get_or, set}
-use mathlib.Core.Logic.{⊎_elim}
+use Rattle.std.proofs.Common.{◌≡◌, ℕ, ◌+◌, ◌-◌, ◌*◌, ◌<◌, refl, sym, arith, ◌∙◌, length, set}
 use Rattle.classes.specs.Classes.{through}
 use Rattle.classes.proofs.Through.{length_through}
 use Rattle.journal.proofs.Counting.{count_done, count_spent, count_full}
-use Rattle.rules.specs.Internal.Passing.{Established}
-use Rattle.rules.specs.Colussi.{colussi_plan}
 use Rattle.rules.specs.Rules.{left}
 use Rattle.rules.specs.declared.Ending.TheVariants.{Done, Spent, Full}
 use Rattle.rules.proofs.Rules.{fewer}
-use Rattle.search.specs.Internal.ColussiScan.{LentOrder, edge_after_rank}
-use Rattle.search.proofs.LentTables.{in_window, word_length}
-use Rattle.search.proofs.ColussiScan.{shift_on, edge_early, edge_late, noholes_passed, scan_known}
+use Rattle.search.specs.Internal.ColussiScan.{edge_after_rank}
+use Rattle.search.proofs.LentTables.{in_window, in_text, past_text}
+use Rattle.search.proofs.ColussiScan.{shift_on, edge_early, edge_late, noholes_passed, due_place, none_due}
 use Rattle.journaled.proofs.Scanning.{Journals, bounds, journals_start, journals_end, journals_matched, journals_missed, journals_listed}
 use Rattle.journaled.proofs.Tables.{places, moves, in_letters}
 use Rattle.journaled.proofs.scan.scan.Goals as goal
 use Rattle.journaled.proofs.scan.scan.Goals.{After-from-i}
-
--- No comparison is due: the pattern occurs.
-occurs : (letters order : List ℕ) (m d : ℕ) (T : LentOrder letters order m d) {text : List ℕ} {cap : ℕ} {before after lent journal : List ℕ}
-    {b i e c h k : ℕ} → Journals letters m d text cap before after lent journal b i e c h k → b + m ≤ length text
-    → (m ≤ i) ⊎ ((i < m) × (b + get_or order i 0 < e)) → Established (colussi_plan (take m letters)) b i e
-occurs letters order m d T {i = i} F fits none_due = ⊎_elim
-    (λ (l : m ≤ i). inl (omega (arith, word_length letters order m d T)))
-    (λ l. scan_known letters order m d T F.counts.by_rank fits _ l.0 refl l.1)
-    none_due
 
 pub returns-then-text-m : goal.returns-then-text-m
 returns-then-text-m c =
@@ -32,7 +20,8 @@ returns-then-text-m c =
     let L = c.requires.letters in
     let p = c.args.pattern.now in
     let none : 0 + (0 - p.noholes) ≡ 0 = omega arith in
-    let F = journals_start c.args.letters.now p.len p.noholes (through p.classes c.args.text.now) c.args.cap c.args.positions.now c.args.journal.now in
+    let text = through p.classes c.args.text.now in
+    let F = journals_start c.args.letters.now p.len p.noholes text c.args.cap c.args.positions.now c.args.journal.now in
     in_letters _ G L _ _ _ _ _ _ _ (rw c.with_holes.ensures.answer (rw none at (journals_end _ _ _ _ (places _ G L) F Done
     (count_done _ _ _ _ (places _ G L) F.counts (omega (arith, length_through p.classes c.args.text.now))))))
 
@@ -49,8 +38,7 @@ pub returns-then-c-cap : goal.returns-then-c-cap
 returns-then-c-cap c =
     let G = c.requires.prepared in
     let L = c.requires.letters in
-    let fits : c.loop-b.b + c.args.pattern.now.len ≤ length (through c.args.pattern.now.classes c.args.text.now) =
-    omega (arith, length_through c.args.pattern.now.classes c.args.text.now) in
+    let fits = in_text _ _ c.if-text-m.false c.loop-b-test.true in
     let due = c.due.ensures.yes c.if-due.true in
     let F = c.loop-b.invariant in
     in_letters _ G L _ _ _ _ _ _ _ (rw c.ended.ensures (journals_end _ _ _ _ (places _ G L) F (Spent c.loop-b.b)
@@ -70,11 +58,10 @@ pub loop-b-preserved-then-agree : goal.loop-b-preserved-then-agree
 loop-b-preserved-then-agree c =
     let G = c.requires.prepared in
     let L = c.requires.letters in
-    let fits : c.loop-b.b + c.args.pattern.now.len ≤ length (through c.args.pattern.now.classes c.args.text.now) =
-    omega (arith, length_through c.args.pattern.now.classes c.args.text.now) in
-    let due = c.due.ensures.yes c.if-due.true in
+    let due = due_place _ _ _ _ (places _ G L) c.due.ensures c.if-due.true c.from-o.ensures in
     let room : c.loop-b.c < length c.loop-b.journal = omega (arith, bounds _ _ _ _ (places _ G L) c.loop-b.invariant) in
-    journals_matched _ _ _ _ (places _ G L) c.loop-b.invariant fits _ due.0 c.from-o.ensures (rw c.from-o.ensures due.1) c.if-c-cap.false room
+    let fits = in_text _ _ c.if-text-m.false c.loop-b-test.true in
+    journals_matched _ _ _ _ (places _ G L) c.loop-b.invariant fits _ due.0 c.from-o.ensures due.1 c.if-c-cap.false room
     (sym c.agree.ensures ∙ c.if-agree.true) refl
 
 pub overflow_add-h-then-d-rank : goal.overflow_add-h-then-d-rank
@@ -85,16 +72,15 @@ missed : (c : After-from-i) {e' h' : ℕ}
     → (let p = c.args.pattern.now in
     let loop = c.loop-b in
     e' ≡ edge_after_rank p.len p.noholes loop.b loop.i loop.e → h' ≡ loop.h + (loop.i + 1 - p.noholes)
-    → Journals c.args.letters.now p.len p.noholes (through p.classes c.args.text.now) c.args.cap c.args.positions.now loop.positions c.args.journal.now
-    (set loop.journal loop.c (2 * (loop.b + c.from-o.result))) (loop.b + c.from-b.result) c.from-i.result e' (loop.c + 1) h' loop.k)
+    → Journals c.args.letters.now p.len p.noholes (through p.classes c.args.text.now) c.args.cap c.args.positions.now loop.positions
+    c.args.journal.now (set loop.journal loop.c (2 * (loop.b + c.from-o.result))) (loop.b + c.from-b.result) c.from-i.result e' (loop.c + 1) h' loop.k)
 missed c edge holes =
     let G = c.requires.prepared in
     let L = c.requires.letters in
-    let fits : c.loop-b.b + c.args.pattern.now.len ≤ length (through c.args.pattern.now.classes c.args.text.now) =
-    omega (arith, length_through c.args.pattern.now.classes c.args.text.now) in
-    let due = c.due.ensures.yes c.if-due.true in
+    let due = due_place _ _ _ _ (places _ G L) c.due.ensures c.if-due.true c.from-o.ensures in
     let room : c.loop-b.c < length c.loop-b.journal = omega (arith, bounds _ _ _ _ (places _ G L) c.loop-b.invariant) in
-    journals_missed _ _ _ _ (places _ G L) c.loop-b.invariant fits _ due.0 c.from-o.ensures (rw c.from-o.ensures due.1) c.if-c-cap.false room
+    let fits = in_text _ _ c.if-text-m.false c.loop-b-test.true in
+    journals_missed _ _ _ _ (places _ G L) c.loop-b.invariant fits _ due.0 c.from-o.ensures due.1 c.if-c-cap.false room
     (sym c.agree.ensures ∙ c.if-agree.false) refl (moves _ G L) (rw c.from-b.ensures refl) c.from-i.ensures edge holes
 
 missed-less : (c : After-from-i)
@@ -128,20 +114,20 @@ pub returns-then-k-positions : goal.returns-then-k-positions
 returns-then-k-positions c =
     let G = c.requires.prepared in
     let L = c.requires.letters in
-    let fits : c.loop-b.b + c.args.pattern.now.len ≤ length (through c.args.pattern.now.classes c.args.text.now) =
-    omega (arith, length_through c.args.pattern.now.classes c.args.text.now) in
+    let fits = in_text _ _ c.if-text-m.false c.loop-b-test.true in
     let F = c.loop-b.invariant in
+    let occurs = none_due _ _ _ _ (places _ G L) F.counts.by_rank fits c.due.ensures c.if-due.false in
     in_letters _ G L _ _ _ _ _ _ _ (rw c.ended-then-k-positions.ensures (journals_end _ _ _ _ (places _ G L) F (Full c.loop-b.b)
-    (count_full _ _ _ _ (places _ G L) F.counts fits (occurs _ _ _ _ (places _ G L) F fits (c.due.ensures.no c.if-due.false)) c.if-k-positions.true)))
+    (count_full _ _ _ _ (places _ G L) F.counts fits occurs c.if-k-positions.true)))
 
 pub overflow_sub-h-else-due : goal.overflow_sub-h-else-due
 overflow_sub-h-else-due c =
     let G = c.requires.prepared in
     let L = c.requires.letters in
-    let fits : c.loop-b.b + c.args.pattern.now.len ≤ length (through c.args.pattern.now.classes c.args.text.now) =
-    omega (arith, length_through c.args.pattern.now.classes c.args.text.now) in
+    let fits = in_text _ _ c.if-text-m.false c.loop-b-test.true in
     let F = c.loop-b.invariant in
-    noholes_passed _ _ _ _ (places _ G L) F.counts.by_rank fits (occurs _ _ _ _ (places _ G L) F fits (c.due.ensures.no c.if-due.false))
+    let occurs = none_due _ _ _ _ (places _ G L) F.counts.by_rank fits c.due.ensures c.if-due.false in
+    noholes_passed _ _ _ _ (places _ G L) F.counts.by_rank fits occurs
 
 pub overflow_add-h-else-due : goal.overflow_add-h-else-due
 overflow_add-h-else-due c = omega (arith, bounds _ _ _ _ (places _ c.requires.prepared c.requires.letters) c.loop-b.invariant)
@@ -163,10 +149,10 @@ pub loop-b-preserved : goal.loop-b-preserved
 loop-b-preserved c =
     let G = c.requires.prepared in
     let L = c.requires.letters in
-    let fits : c.loop-b.b + c.args.pattern.now.len ≤ length (through c.args.pattern.now.classes c.args.text.now) =
-    omega (arith, length_through c.args.pattern.now.classes c.args.text.now) in
+    let fits = in_text _ _ c.if-text-m.false c.loop-b-test.true in
     let F = c.loop-b.invariant in
-    journals_listed _ _ _ _ (places _ G L) F fits (occurs _ _ _ _ (places _ G L) F fits (c.due.ensures.no c.if-due.false)) c.if-k-positions.false
+    let occurs = none_due _ _ _ _ (places _ G L) F.counts.by_rank fits c.due.ensures c.if-due.false in
+    journals_listed _ _ _ _ (places _ G L) F fits occurs c.if-k-positions.false
     (moves _ G L) refl (rw c.from-b-else-due.ensures refl) c.from-i-else-due.ensures
 
 pub ended-requires-2 : goal.ended-requires-2
@@ -178,4 +164,4 @@ returns c =
     let L = c.requires.letters in
     let F = c.loop-b.invariant in
     in_letters _ G L _ _ _ _ _ _ _ (rw c.ended-2.ensures (journals_end _ _ _ _ (places _ G L) F Done
-    (count_done _ _ _ _ (places _ G L) F.counts (omega (arith, length_through c.args.pattern.now.classes c.args.text.now)))))
+    (count_done _ _ _ _ (places _ G L) F.counts (past_text _ _ c.if-text-m.false c.loop-b-test.false))))

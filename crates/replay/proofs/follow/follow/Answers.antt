@@ -1,33 +1,18 @@
 -- The pass goes by the rules: each turn keeps the loop's state that of the replay, and each end tells what the replay does.
-use Rattle.std.proofs.Common.{◌≡◌, ℕ, ◌+◌, ◌-◌, ◌<◌, ◌≤◌, refl, sym, arith, get_or, ◌⊎◌, inl, ◌∙◌, List, length, take, set}
-use mathlib.Core.Logic.{⊎_elim}
+use Rattle.std.proofs.Common.{◌≡◌, ℕ, ◌+◌, ◌-◌, ◌<◌, ◌≤◌, refl, sym, arith, ◌∙◌, length, set}
 use lib.Seq.{set_out}
-use Rattle.checked.specs.Check.{IsPrepared}
 use Rattle.journal.proofs.Counting.{count_done, count_spent, count_full}
 use Rattle.pattern.specs.Letters.{word_of}
-use Rattle.pattern.specs.declared.Pattern.{Pattern}
-use Rattle.rules.specs.Internal.Passing.{Established}
-use Rattle.rules.specs.Colussi.{colussi_plan}
 use Rattle.rules.specs.Rules.{left}
 use Rattle.rules.specs.declared.Ending.TheVariants.{Done, Spent, Full}
 use Rattle.rules.proofs.Rules.{fewer}
 use Rattle.search.specs.Internal.ColussiScan.{edge_after_rank}
-use Rattle.search.proofs.LentTables.{word_length}
-use Rattle.search.proofs.ColussiScan.{shift_on, edge_early, edge_late, noholes_passed, scan_known}
+use Rattle.search.proofs.ColussiScan.{shift_on, edge_early, edge_late, noholes_passed, due_place, none_due}
 use Rattle.replay.proofs.Scanning.{Replays, replays_start, at_once, bounds, whole_read, replays_end, another_place}
 use Rattle.replay.proofs.Scanning.{replays_matched, replays_missed, replays_listed, full_at}
 use Rattle.replay.proofs.Tables.{whole, places, moves}
 use Rattle.replay.proofs.follow.follow.Goals as goal
 use Rattle.replay.proofs.follow.follow.Goals.{After-from-i, then-k-positions, else-k-positions}
-
--- No comparison is due: the pattern occurs.
-occurs : (p : Pattern) (G : IsPrepared p) {n size : ℕ} {journal before after : List ℕ} {b i e c h k : ℕ}
-    → Replays (word_of p) p.len p.noholes n size journal before after b i e c h k → b + p.len ≤ n
-    → (p.len ≤ i) ⊎ ((i < p.len) × (b + get_or p.order i 0 < e)) → Established (colussi_plan (take p.len (word_of p))) b i e
-occurs p G {i} F fits none_due = ⊎_elim
-    (λ (l : p.len ≤ i). inl (omega (arith, word_length _ _ _ _ (places p G))))
-    (λ l. scan_known _ _ _ _ (places p G) F.counts.by_rank fits _ l.0 refl l.1)
-    none_due
 
 pub returns-then-n-m : goal.returns-then-n-m
 returns-then-n-m c = rw (whole _ c.requires.prepared) at
@@ -57,17 +42,17 @@ bounds-pattern-i c = omega (arith, bounds _ _ _ _ (places _ c.requires.prepared)
 pub returns-then-v-b : goal.returns-then-v-b
 returns-then-v-b c =
     let G = c.requires.prepared in
-    let due = c.due.ensures.yes c.if-due.true in
+    let due = due_place _ _ _ _ (places _ G) c.due.ensures c.if-due.true c.from.ensures in
     let room : c.loop-b.c < length c.args.journal.now = omega (arith, bounds _ _ _ _ (places _ G) c.loop-b.invariant) in
     rw (whole _ G) at
-    (another_place _ _ _ _ (places _ G) c.loop-b.invariant (omega arith) _ due.0 c.from.ensures (rw c.from.ensures due.1) room c.if-v-b.true)
+    (another_place _ _ _ _ (places _ G) c.loop-b.invariant (omega arith) _ due.0 c.from.ensures due.1 room c.if-v-b.true)
 
 pub loop-b-preserved-then-equal : goal.loop-b-preserved-then-equal
 loop-b-preserved-then-equal c =
     let G = c.requires.prepared in
-    let due = c.due.ensures.yes c.if-due.true in
+    let due = due_place _ _ _ _ (places _ G) c.due.ensures c.if-due.true c.from.ensures in
     let room : c.loop-b.c < length c.args.journal.now = omega (arith, bounds _ _ _ _ (places _ G) c.loop-b.invariant) in
-    replays_matched _ _ _ _ (places _ G) c.loop-b.invariant (omega arith) _ due.0 c.from.ensures (rw c.from.ensures due.1) room c.if-v-b.false
+    replays_matched _ _ _ _ (places _ G) c.loop-b.invariant (omega arith) _ due.0 c.from.ensures due.1 room c.if-v-b.false
     c.if-equal.true
 
 pub overflow_add-h-then-d-rank : goal.overflow_add-h-then-d-rank
@@ -88,9 +73,9 @@ missed : (c : After-from-i) {e' h' : ℕ}
     (loop.b + c.from-b.result) c.from-i.result e' (loop.c + 1) h' loop.k)
 missed c edge holes =
     let G = c.requires.prepared in
-    let due = c.due.ensures.yes c.if-due.true in
+    let due = due_place _ _ _ _ (places _ G) c.due.ensures c.if-due.true c.from.ensures in
     let room : c.loop-b.c < length c.args.journal.now = omega (arith, bounds _ _ _ _ (places _ G) c.loop-b.invariant) in
-    replays_missed _ _ _ _ (places _ G) c.loop-b.invariant (omega arith) _ due.0 c.from.ensures (rw c.from.ensures due.1) room c.if-v-b.false
+    replays_missed _ _ _ _ (places _ G) c.loop-b.invariant (omega arith) _ due.0 c.from.ensures due.1 room c.if-v-b.false
     c.if-equal.false (moves _ G) (rw c.from-b.ensures refl) c.from-i.ensures edge holes
 
 missed-less : (c : After-from-i)
@@ -123,8 +108,10 @@ pub returns-then-k-size : goal.returns-then-k-size
 returns-then-k-size c =
     let G = c.requires.prepared in
     let F = c.loop-b.invariant in
+    let fits : c.loop-b.b + c.args.pattern.now.len ≤ c.args.n = omega arith in
+    let occurs = none_due _ _ _ _ (places _ G) F.counts.by_rank fits c.due.ensures c.if-due.false in
     rw (whole _ G) at (replays_end _ _ _ _ (places _ G) F (Full c.loop-b.b)
-    (count_full _ _ _ _ (places _ G) F.counts (omega arith) (occurs _ G F (omega arith) (c.due.ensures.no c.if-due.false))
+    (count_full _ _ _ _ (places _ G) F.counts fits occurs
     (full_at _ _ _ _ (places _ G) F c.if-k-size.true))
     _ (rw c.ended-then-k-size.ensures at c.if_all_read-then-k-size.ensures))
 
@@ -132,7 +119,9 @@ pub overflow_sub-h-else-due : goal.overflow_sub-h-else-due
 overflow_sub-h-else-due c =
     let G = c.requires.prepared in
     let F = c.loop-b.invariant in
-    noholes_passed _ _ _ _ (places _ G) F.counts.by_rank (omega arith) (occurs _ G F (omega arith) (c.due.ensures.no c.if-due.false))
+    let fits : c.loop-b.b + c.args.pattern.now.len ≤ c.args.n = omega arith in
+    let occurs = none_due _ _ _ _ (places _ G) F.counts.by_rank fits c.due.ensures c.if-due.false in
+    noholes_passed _ _ _ _ (places _ G) F.counts.by_rank fits occurs
 
 pub overflow_add-h-else-due : goal.overflow_add-h-else-due
 overflow_add-h-else-due c = omega (arith, bounds _ _ _ _ (places _ c.requires.prepared) c.loop-b.invariant)
@@ -146,17 +135,20 @@ bounds-pattern-m-else-due c = omega (arith, bounds _ _ _ _ (places _ c.requires.
 pub loop-b-smaller : goal.loop-b-smaller
 loop-b-smaller c =
     let G = c.requires.prepared in
-    rw c.from-b-else-due.ensures (fewer _ _ _ _ _ _ (omega arith) (shift_on _ _ _ _ (places _ G) _ _ (moves _ G) c.args.pattern.now.len (omega arith)))
+    rw c.from-b-else-due.ensures
+    (fewer _ _ _ _ _ _ (omega arith) (shift_on _ _ _ _ (places _ G) _ _ (moves _ G) c.args.pattern.now.len (omega arith)))
 
 pub loop-b-preserved : goal.loop-b-preserved
 loop-b-preserved c =
     let G = c.requires.prepared in
     let F = c.loop-b.invariant in
+    let fits : c.loop-b.b + c.args.pattern.now.len ≤ c.args.n = omega arith in
+    let occurs = none_due _ _ _ _ (places _ G) F.counts.by_rank fits c.due.ensures c.if-due.false in
     let list : c.if-k-positions.positions ≡ set c.loop-b.positions c.loop-b.k c.loop-b.b = elim c.if-k-positions.branch [
       | then-k-positions w ↦ w.positions-is
       | else-k-positions w ↦ w.positions-is ∙ sym (set_out _ _ _ w.if-k-positions.false)
     ] in
-    rw list (replays_listed _ _ _ _ (places _ G) F (omega arith) (occurs _ G F (omega arith) (c.due.ensures.no c.if-due.false)) c.if-k-size.false
+    rw list (replays_listed _ _ _ _ (places _ G) F fits occurs c.if-k-size.false
     (moves _ G) refl (rw c.from-b-else-due.ensures refl) c.from-i-else-due.ensures)
 
 pub ended-requires-2 : goal.ended-requires-2

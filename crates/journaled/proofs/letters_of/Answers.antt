@@ -1,10 +1,10 @@
 -- The letters of so many bytes are put first.
 use Rattle.std.proofs.Common.{arith}
 use Rattle.classes.proofs.Letters.{first_letters}
-use Rattle.journaled.proofs.put_first.Goals as goal
+use Rattle.journaled.proofs.letters_of.Goals as goal
 
 pub returns : goal.returns
 returns c =
     let p = c.args.pattern.now in
-    let read = first_letters p.bytes p.classes _ p.len (omega arith) c.requires.1 (omega arith) c.put_letters.ensures.put in
+    let read = first_letters p.bytes p.classes _ p.len (omega arith) (omega arith) (omega arith) c.put_letters.ensures.put in
     record { size = read.0; word = read.1 }
