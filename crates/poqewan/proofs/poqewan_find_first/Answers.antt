@@ -1,5 +1,5 @@
 -- What `first::find_first` promises of its answer holds of the answer carried.
-use mathlib.Core.Path.{refl, ap, ◌∙◌}
+use mathlib.Core.Path.{ap, ◌∙◌}
 use Rattle.carried.specs.Carried.{carried_first}
 use Rattle.carried.proofs.Carrying.{first_promised_to_c}
 use Rattle.poqewan.proofs.poqewan_find_first.Goals as goal

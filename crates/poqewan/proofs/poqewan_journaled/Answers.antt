@@ -1,5 +1,5 @@
 -- What `journaled::journaled` promises of its answer holds of the answer carried.
-use mathlib.Core.Path.{refl, ap, ◌∙◌}
+use mathlib.Core.Path.{ap, ◌∙◌}
 use Rattle.carried.specs.Carried.{carried}
 use Rattle.carried.proofs.Carrying.{promised_to_c}
 use Rattle.poqewan.proofs.poqewan_journaled.Goals as goal

@@ -1,5 +1,5 @@
 -- What `lengths::prefix_lengths` promises of its answer holds of the answer carried.
-use mathlib.Core.Path.{refl, ap, ◌∙◌}
+use mathlib.Core.Path.{ap, ◌∙◌}
 use Rattle.carried.specs.Carried.{carried_lengths}
 use Rattle.carried.proofs.Carrying.{count_promised_to_c}
 use Rattle.poqewan.proofs.poqewan_prefix_lengths.Goals as goal
