@@ -18,14 +18,14 @@ let_in c = at_the_door _ _ c.admit-door.ensures.answer c.is_prepared.ensures.tes
 fields : (c : In-Admitted) → Fields c.args.pattern
 fields c = fields_of _ (admitted_is _ _ (let_in c)).prepared
 
-pub put_first-requires : goal.put_first-requires
-put_first-requires c = (fields (goal.at.put_first-requires c).In-Admitted).short
+pub letters-letters-requires : goal.letters-letters-requires
+letters-letters-requires c = (fields (goal.at.letters-letters-requires c).In-Admitted).short
 
 pub scan-report-requires : goal.scan-report-requires
 scan-report-requires c =
     let told = (goal.at.scan-report-requires c).In-Admitted in
     record {
-      lent = lent _ (fields told) c.put_first.ensures;
+      lent = lent _ (fields told) c.letters-letters.ensures;
       short = omega (arith, (admitted_is _ _ (let_in told)).fits);
     }
 
@@ -33,7 +33,7 @@ pub returns-in-Admitted : goal.returns-in-Admitted
 returns-in-Admitted c =
     let told = (goal.at.returns-in-Admitted c).In-Admitted in
     let P = colussi_promises c.args.pattern _ c.args.cap _
-    (scanned colussi c.args.pattern _ c.args.cap _ (let_in told) (letters_are _ (fields told) c.put_first.ensures) c.scan-report.ensures) in
+    (scanned colussi c.args.pattern _ c.args.cap _ (let_in told) (letters_are _ (fields told) c.letters-letters.ensures) c.scan-report.ensures) in
     record {
       answer = P.0;
       list = P.1.0;

@@ -23,8 +23,8 @@ fill_by_place-requires c =
     let F = fields (goal.at.fill_by_place-requires c).In-Admitted in
     (noholes_within _ F, F.short)
 
-pub put_first-requires : goal.put_first-requires
-put_first-requires c = (fields (goal.at.put_first-requires c).In-Admitted).short
+pub letters-letters-requires : goal.letters-letters-requires
+letters-letters-requires c = (fields (goal.at.letters-letters-requires c).In-Admitted).short
 
 pub scan-report-requires : goal.scan-report-requires
 scan-report-requires c =
@@ -32,7 +32,7 @@ scan-report-requires c =
     let F = fields told in
     record {
       some = (F.some, F.short);
-      tables = kmp_tables _ F c.put_first.ensures (c.fill_by_place.ensures _ (by_rank _ F));
+      tables = kmp_tables _ F c.letters-letters.ensures (c.fill_by_place.ensures _ (by_rank _ F));
       short = omega (arith, (admitted_is _ _ (let_in told)).fits);
     }
 
@@ -40,7 +40,7 @@ pub returns-in-Admitted : goal.returns-in-Admitted
 returns-in-Admitted c =
     let told = (goal.at.returns-in-Admitted c).In-Admitted in
     let P = kmp_promises c.args.pattern _ c.args.cap _
-    (scanned kmp c.args.pattern _ c.args.cap _ (let_in told) (letters_are _ (fields told) c.put_first.ensures) c.scan-report.ensures) in
+    (scanned kmp c.args.pattern _ c.args.cap _ (let_in told) (letters_are _ (fields told) c.letters-letters.ensures) c.scan-report.ensures) in
     record {
       answer = P.0;
       list = P.1.0;

@@ -16,21 +16,21 @@ let_in c = at_the_door _ _ c.admit-door.ensures.answer c.is_prepared.ensures.tes
 fields : (c : In-Admitted) → Fields c.args.pattern
 fields c = fields_of _ (admitted_is _ _ (let_in c)).prepared
 
-pub put_first-requires : goal.put_first-requires
-put_first-requires c = (fields (goal.at.put_first-requires c).In-Admitted).short
+pub letters-letters-requires : goal.letters-letters-requires
+letters-letters-requires c = (fields (goal.at.letters-letters-requires c).In-Admitted).short
 
 pub scan-stop-requires : goal.scan-stop-requires
 scan-stop-requires c =
     let told = (goal.at.scan-stop-requires c).In-Admitted in
     record {
-      lent = lent _ (fields told) c.put_first.ensures;
+      lent = lent _ (fields told) c.letters-letters.ensures;
       short = omega (arith, (admitted_is _ _ (let_in told)).fits);
     }
 
 pub returns-in-Admitted : goal.returns-in-Admitted
 returns-in-Admitted c =
     let told = (goal.at.returns-in-Admitted c).In-Admitted in
-    record { answer = stop_scanned _ _ (let_in told) (letters_are _ (fields told) c.put_first.ensures) c.scan-stop.ensures }
+    record { answer = stop_scanned _ _ (let_in told) (letters_are _ (fields told) c.letters-letters.ensures) c.scan-stop.ensures }
 
 pub returns-in-Refused : goal.returns-in-Refused
 returns-in-Refused c =
