@@ -9,12 +9,18 @@ ghost use Rattle.search.specs.Internal.Letters.{LettersOf, Agrees};
 use classes::{CLASSES, put_letters};
 use pattern::{LONGEST_PATTERN, Pattern};
 
-// The letters of a pattern, put at the start of a list. It is lent: one that is given is copied once more, at each call of a search.
-pub fn put_first(pattern: &Pattern, letters: &mut [u8; LONGEST_PATTERN])
+// The letters of a pattern, at the start of the list.
+pub fn letters(pattern: &Pattern) -> [u8; LONGEST_PATTERN]
     requires { pattern.now.len ≤ longest_pattern }
-    ensures { LettersOf pattern.now.bytes pattern.now.classes pattern.now.len longest_pattern letters.new }
+    ensures { LettersOf pattern.now.bytes pattern.now.classes pattern.now.len longest_pattern result }
 {
-    put_letters(&pattern.bytes[..pattern.len], &pattern.classes, letters)
+    let mut letters = [0u8; LONGEST_PATTERN];
+    put_letters(
+        &pattern.bytes[..pattern.len],
+        &pattern.classes,
+        &mut letters,
+    );
+    letters
 }
 
 // A text, and the classes that its bytes are read through.

@@ -9,8 +9,8 @@ use Rattle.search.proofs.Answers.{refused, scanned}
 use Rattle.search.proofs.Promises.{colussi_promises}
 use Rattle.search.proofs.colussi.Goals as goal
 
-pub put_first-requires : goal.put_first-requires
-put_first-requires c =
+pub letters-letters-requires : goal.letters-letters-requires
+letters-letters-requires c =
     (fields_of _ (admitted_is _ _ (at_the_door c.args.pattern (length c.args.text.now) c.in_ok-admit.ensures.answer c.is_prepared.ensures.test)).prepared).short
 
 pub scan-requires : goal.scan-requires
@@ -18,7 +18,7 @@ scan-requires c =
     let told = at_the_door c.args.pattern (length c.args.text.now) c.in_ok-admit.ensures.answer c.is_prepared.ensures.test in
     let F = fields_of _ (admitted_is _ _ told).prepared in
     record {
-      lent = lent _ F c.put_first.ensures;
+      lent = lent _ F c.letters-letters.ensures;
       short = omega (arith, (admitted_is _ _ told).fits);
     }
 
@@ -27,7 +27,7 @@ returns c =
     let told = at_the_door c.args.pattern (length c.args.text.now) c.in_ok-admit.ensures.answer c.is_prepared.ensures.test in
     let F = fields_of _ (admitted_is _ _ told).prepared in
     let P = colussi_promises c.args.pattern _ c.args.cap _
-    (scanned colussi c.args.pattern _ c.args.cap _ told (letters_are _ F c.put_first.ensures) c.scan.ensures) in
+    (scanned colussi c.args.pattern _ c.args.cap _ told (letters_are _ F c.letters-letters.ensures) c.scan.ensures) in
     record {
       answer = P.answer;
       list = P.list;

@@ -14,8 +14,8 @@ fill_by_place-requires c =
     let F = fields_of _ (admitted_is _ _ (at_the_door c.args.pattern (length c.args.text.now) c.in_ok-admit.ensures.answer c.is_prepared.ensures.test)).prepared in
     (noholes_within _ F, F.short)
 
-pub put_first-requires : goal.put_first-requires
-put_first-requires c =
+pub letters-letters-requires : goal.letters-letters-requires
+letters-letters-requires c =
     (fields_of _ (admitted_is _ _ (at_the_door c.args.pattern (length c.args.text.now) c.in_ok-admit.ensures.answer c.is_prepared.ensures.test)).prepared).short
 
 pub scan-requires : goal.scan-requires
@@ -24,7 +24,7 @@ scan-requires c =
     let F = fields_of _ (admitted_is _ _ told).prepared in
     record {
       some = (F.some, F.short);
-      tables = kmp_tables _ F c.put_first.ensures (c.fill_by_place.ensures _ (by_rank _ F));
+      tables = kmp_tables _ F c.letters-letters.ensures (c.fill_by_place.ensures _ (by_rank _ F));
       short = omega (arith, (admitted_is _ _ told).fits);
     }
 
@@ -33,7 +33,7 @@ returns c =
     let told = at_the_door c.args.pattern (length c.args.text.now) c.in_ok-admit.ensures.answer c.is_prepared.ensures.test in
     let F = fields_of _ (admitted_is _ _ told).prepared in
     let P = kmp_promises c.args.pattern _ c.args.cap _
-    (scanned kmp c.args.pattern _ c.args.cap _ told (letters_are _ F c.put_first.ensures) c.scan.ensures) in
+    (scanned kmp c.args.pattern _ c.args.cap _ told (letters_are _ F c.letters-letters.ensures) c.scan.ensures) in
     record {
       answer = P.answer;
       list = P.list;
