@@ -1,10 +1,8 @@
 -- The promises of the search of one record are those of a search, in plain terms, of the record's bytes.
+use Rattle.std.specs.Prelude.{Option, IfSome, Result, IfOk}
+use Rattle.refusal.specs.declared.Refusal.{Refusal}
 use Rattle.rules.specs.declared.Report.{Report}
-use Rattle.archive.specs.declared.RecordAnswer.{RecordAnswer}
-use Rattle.archive.specs.declared.RecordAnswer.TheVariants.{Ran, NoSuchRecord, Refused}
 
 -- Where a search ran, its report is such.
-abbrev pub IfRan : (Report → Type 0) → RecordAnswer → Type 0
-IfRan P (Ran r) = P r
-IfRan P NoSuchRecord = Unit {0}
-IfRan P (Refused why) = Unit {0}
+abbrev pub IfRan : (Report → Type 0) → Result (Option Report) Refusal → Type 0
+IfRan P result = IfOk result (λ ran. IfSome ran P)

@@ -96,11 +96,11 @@ module _ (p : Pattern) (t : List ℕ) (place : ℕ) (lent : List ℕ) (used : �
       let R = refused_by before20 none in
       rw (e ∙ answered_not used R.1) (refused R.1)
 
-  long_text : longest_text < length t → {r : Result ℕ Refusal} → r ≡ answered before20 used → Answers r lent
+  pub long_text : longest_text < length t → {r : Result ℕ Refusal} → r ≡ answered before20 used → Answers r lent
   unfolding admitted_list
   long_text l = not_in (λ e. omega (arith, (admitted_is p (length t) (passes_all (admitted p (length t)) (in_order lent used) FalseList e).0).fits))
 
-  false_list : in_order lent used ≡ false → {r : Result ℕ Refusal} → r ≡ answered before20 used → Answers r lent
+  pub false_list : in_order lent used ≡ false → {r : Result ℕ Refusal} → r ≡ answered before20 used → Answers r lent
   unfolding admitted_list
   false_list f = not_in (λ e. not_both (in_order lent used) (passes_all (admitted p (length t)) (in_order lent used) FalseList e).1 f)
 
@@ -120,7 +120,7 @@ module _ (p : Pattern) (t : List ℕ) (place : ℕ) (lent : List ℕ) (used : �
     list_same (Ok tt) = listed_in new_of lent refl ∙ rw (new_length, new_same) (take-append-drop used lent)
     list_same (Err why) = listed_not new_of lent refl
 
-    place_outside : {r : Result ℕ Refusal} → r ≡ answered before20 used → Answers r lent
+    pub place_outside : {r : Result ℕ Refusal} → r ≡ answered before20 used → Answers r lent
     place_outside e = answers_as (e ∙ rw (tested_same, new_length) refl) (sym (list_same tested))
 
   -- These are the cases where nothing is searched: the door answers, by how the list was found.

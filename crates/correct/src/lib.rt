@@ -6,7 +6,7 @@ mod bisect;
 mod moving;
 mod windows;
 
-ghost use Rattle.std.specs.Prelude.{IfOk, ◌≡◌, ◌+◌, ◌≤◌, ◌<◌, length, take, drop};
+ghost use Rattle.std.specs.Prelude.{◌≡◌, ◌+◌, ◌≤◌, ◌<◌, length, take, drop, IfOk};
 ghost use Rattle.admission.specs.Admitted.{admitted, also_judged};
 ghost use Rattle.classes.specs.Classes.{identity};
 ghost use Rattle.lists.specs.Lists.{Ascending, moved};

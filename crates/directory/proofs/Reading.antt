@@ -76,11 +76,11 @@ module _ (a : List ℕ) where
             past_8 : directory_of a ≡ from_9 a
             past_8 = past_7 ∙ rw (le-leb (record_count a) most_records few, eq-eqb _ (length a) exactly) refl
 
-            pub untouched : touch a (directory_start a) (record_count a) ≡ false → directory_of a ≡ Err RecordsApart
-            untouched e = past_8 ∙ rw e refl
+            pub apart : touch a (directory_start a) (record_count a) ≡ false → directory_of a ≡ Err RecordsApart
+            apart e = past_8 ∙ rw e refl
 
-            pub touched_all : touch a (directory_start a) (record_count a) ≡ true → directory_of a ≡ Ok (told a)
-            touched_all e = past_8 ∙ rw e refl
+            pub whole : touch a (directory_start a) (record_count a) ≡ true → directory_of a ≡ Ok (told a)
+            whole e = past_8 ∙ rw e refl
 
 -- ---- The closing bytes
 
@@ -178,7 +178,7 @@ module _ (a : List ℕ) (d : Directory) where
   unfolding directory_start record_count
   read_of A =
       let here : told a ≡ d = λ i. record { start = sym A.start i; records = sym A.records i } in
-      touched_all a A.fits A.trailer (closing_of a (omega (arith, A.trailer)) A.closing) (omega (arith, A.few, A.records))
+      whole a A.fits A.trailer (closing_of a (omega (arith, A.trailer)) A.closing) (omega (arith, A.few, A.records))
       (omega (arith, A.exactly, A.start, A.records)) (rw (← A.start, ← A.records) (touch_of a d.start d.records A.touching A.last))
       ∙ ap Ok here
 
@@ -187,4 +187,4 @@ pub read_means : (a : List ℕ) {r : Result Directory Refusal} → r ≡ directo
 read_means a e = rw e (λ d. (read_is a d, read_of a d))
 
 -- Its tests, one by one.
-pub ruleset tests = (long, short, unclosed, many, elsewhere, untouched, touched_all)
+pub ruleset tests = (long, short, unclosed, many, elsewhere, apart, whole)
