@@ -15,9 +15,7 @@ ghost use Rattle.rules.specs.Kmp.{kmp};
 ghost use Rattle.rules.specs.Report.{Columns};
 ghost use Rattle.search.specs.Promise.{Located, ListedBy, UnderCeiling, UnderKmpCeiling, AsColussi, NoZeroCovered};
 
-use carried::{
-    ArchiveDirectory, RecordBounds, SearchReport, archive_directory, carry_bounds, carry_record,
-};
+use carried::{ArchiveDirectory, RecordBounds, SearchReport, archive_directory};
 use pattern::Pattern;
 
 // Reads the directory of an archive. Refused, in this order: more bytes than the longest text has (5), fewer than 12 bytes or wrong closing
@@ -38,7 +36,7 @@ pub extern "C" fn poqewan_find_record(archive: &[u8], index: u64) -> RecordBound
     ensures answer { result ≡ carried_bounds (bounds_by archive.now index) }
     ensures inside { result.found ≡ 1 → Lies archive.now index (bounds_in result) }
 {
-    carry_bounds(directory::find_record(archive, index as usize))
+    RecordBounds::from(directory::find_record(archive, index as usize))
 }
 
 // Searches one record of an archive in Colussi's order: its positions count from the record's own first byte. Refused, in this order, with the
@@ -61,7 +59,7 @@ pub extern "C" fn poqewan_colussi_record(
     ensures zeros { Searched result → NoZeroCovered (length (word_of pattern)) (record_of archive.now index) positions.new (report_in result) }
     ensures plain { pattern.classes ≡ identity → (result ≡ carried_record (plain_answer_by colussi pattern archive.now index cap (length positions.old))) × (positions.new ≡ plain_list_by colussi pattern archive.now index cap positions.old) }
 {
-    carry_record(archive::colussi_record(pattern, archive, index as usize, cap, positions))
+    SearchReport::from(archive::colussi_record(pattern, archive, index as usize, cap, positions))
 }
 
 // Searches one record by Knuth, Morris and Pratt, with the same report, endings, refusals and list. Run to its end, it lists what
@@ -84,5 +82,5 @@ pub extern "C" fn poqewan_kmp_record(
     ensures zeros { Searched result → NoZeroCovered (length (word_of pattern)) (record_of archive.now index) positions.new (report_in result) }
     ensures plain { pattern.classes ≡ identity → (result ≡ carried_record (plain_answer_by kmp pattern archive.now index cap (length positions.old))) × (positions.new ≡ plain_list_by kmp pattern archive.now index cap positions.old) }
 {
-    carry_record(archive::kmp_record(pattern, archive, index as usize, cap, positions))
+    SearchReport::from(archive::kmp_record(pattern, archive, index as usize, cap, positions))
 }

@@ -10,7 +10,7 @@ ghost use Rattle.correct.specs.Promise.{CoveredBy, StaysFull, NoZeroNear};
 ghost use Rattle.pattern.specs.Letters.{own_bytes, word_of, text_of};
 ghost use Rattle.update.specs.Promise.{Corrected};
 
-use carried::{Update, carry_update};
+use carried::Update;
 use pattern::Pattern;
 
 // Brings the first `used` entries of a list of positions up to date after the byte at a place of the text was corrected, by a search of the windows
@@ -34,5 +34,5 @@ pub extern "C" fn poqewan_correct(
     ensures zeros { result.refusal ≡ 0 → NoZeroNear (length (word_of pattern)) text.now place (take result.used positions.new) }
     ensures plain { pattern.classes ≡ identity → (result ≡ carried_update (plain_answer_of pattern text.now place positions.old used)) × (positions.new ≡ plain_list_of pattern text.now place positions.old used) }
 {
-    carry_update(correct::correct(pattern, text, place, positions, used))
+    Update::from(correct::correct(pattern, text, place, positions, used))
 }

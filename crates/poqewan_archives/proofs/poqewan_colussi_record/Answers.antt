@@ -1,5 +1,5 @@
 -- What `archive::colussi_record` promises of its answer holds of the answer carried.
-use mathlib.Core.Path.{refl, ap, ◌∙◌}
+use mathlib.Core.Path.{ap, ◌∙◌}
 use Rattle.carried.specs.Carried.{carried_record}
 use Rattle.carried.proofs.Carrying.{record_promised_to_c}
 use Rattle.poqewan_archives.proofs.poqewan_colussi_record.Goals as goal

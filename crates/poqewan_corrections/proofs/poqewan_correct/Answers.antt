@@ -1,5 +1,5 @@
 -- What `correct::correct` promises of its answer holds of the answer carried.
-use mathlib.Core.Path.{refl, ap, ◌∙◌}
+use mathlib.Core.Path.{ap, ◌∙◌}
 use Rattle.carried.specs.Carried.{carried_update}
 use Rattle.carried.proofs.Carrying.{used_promised_to_c}
 use Rattle.poqewan_corrections.proofs.poqewan_correct.Goals as goal
