@@ -9,14 +9,14 @@ use Rattle.classes.specs.Classes.{identity}
 use Rattle.intake.specs.Sizes.{scratch_size}
 use Rattle.std.specs.Prelude.{Result, Ok, Err}
 use Rattle.refusal.specs.declared.Refusal.{Refusal}
-use Rattle.checked.specs.Check.{same_pattern, prepared_again, is_prepared, Gives, IsPrepared, PlainIsPrepared}
-use Rattle.pattern.specs.Built.{pattern_with, pattern_of}
+use Rattle.checked.specs.Check.{same_tables, same_pattern, prepared_again, is_prepared, Gives, IsPrepared, PlainIsPrepared}
+use Rattle.pattern.specs.Built.{pattern_with, pattern_of, built, built_with}
 use Rattle.pattern.specs.Letters.{own_bytes}
 use Rattle.pattern.specs.declared.Pattern.{Pattern}
 use Rattle.preparation.specs.Prepared.{prepared}
 use Rattle.pattern.specs.declared.Built.{Built}
-use Rattle.preparation.proofs.Answers.{plain_prepared_lem}
-use Rattle.checked.proofs.Same.{same_pattern_lem}
+use Rattle.preparation.proofs.Answers.{ready, ready_answer, plain_prepared_lem}
+use Rattle.checked.proofs.Same.{tables_decide, same_pattern_lem}
 
 pub own_classes : (w c : List ℕ) → (pattern_of w c).classes ≡ c
 unfolding pattern_of pattern_with
@@ -38,6 +38,15 @@ module _ (p : Pattern) where
   plain : p.classes ≡ identity → IsPrepared p ≡ PlainIsPrepared p
   unfolding IsPrepared prepared_again PlainIsPrepared
   plain e = rw (e, plain_prepared_lem (own_bytes p) scratch_size) refl
+
+  -- Prepared again, it has the classes that it was lent, so that the tables decide.
+  pub tables_tell : {own : Built} → Ok own ≡ prepared (own_bytes p) p.classes scratch_size → same_tables p own.pattern ≡ same_pattern p own.pattern
+  unfolding built built_with pattern_of pattern_with
+  tables_tell {own} again =
+      let tests = ready (own_bytes p) p.classes scratch_size (sym again) in
+      let whole : Ok own ≡ Ok (built (own_bytes p) p.classes) = again ∙ ready_answer (own_bytes p) p.classes scratch_size tests in
+      let same : own ≡ built (own_bytes p) p.classes = cc in
+      tables_decide p own.pattern (ap (λ (b : Built). b.pattern.classes) same)
 
   -- What `is_prepared` ensures of its answer r, where preparation answered a to the pattern's own bytes and classes.
   pub tested : {a : Result Built Refusal} {r : Bool} → a ≡ prepared (own_bytes p) p.classes scratch_size → r ≡ matches p a

@@ -1,11 +1,14 @@
--- same_list and same_pattern decide equality. Assumes nothing.
-use Prim.Native.Nat.{ℕ}
-use mathlib.Core.Path.{◌≡◌, refl, ap}
+-- same_list and same_pattern decide equality, and how a loop tests for it. Assumes nothing.
+use Prim.Native.Nat.{ℕ, suc, ◌+◌, ◌≤◌, ◌<◌}
+use mathlib.Core.Path.{◌≡◌, refl, sym, ap, ◌∙◌}
 use mathlib.Core.Logic.{◌↔◌}
-use mathlib.Core.Bool.{Bool, true, false, ◌&&◌}
+use mathlib.Core.Bool.{Bool, true, false, ◌&&◌, and_assoc, and-true}
 use mathlib.Core.List.{List, [], ◌∷◌}
+use native.Mathlib.Numerals.{add-one}
 use lib.Dec.{eqb}
 use lib.Pointwise.{pointwise}
+use lib.ListN.{length, get_or, drop, drop_of_length-le}
+use lib.Seq.{drop-cons}
 use borrow.Author.Tests.{eq-eqb, eqb-true}
 use Rattle.words.proofs.Cases.{both_true, not_both}
 use Rattle.checked.specs.Check.{same_list, same_tables, same_pattern}
@@ -27,13 +30,31 @@ unfolding same_list
 same_self [] = refl
 same_self (x ∷ s) = rw (eq-eqb x x refl) (same_self s)
 
--- As the library compares them.
-pointwise_is : (a b : List ℕ) → pointwise eqb a b ≡ same_list a b
+-- As any entries are compared that have an equality of their own.
+pub pointwise_is : (a b : List ℕ) → pointwise eqb a b ≡ same_list a b
 unfolding same_list
 pointwise_is [] [] = refl
 pointwise_is [] (y ∷ t) = refl
 pointwise_is (x ∷ s) [] = refl
 pointwise_is (x ∷ s) (y ∷ t) = ap (λ r. eqb x y && r) (pointwise_is s t)
+
+-- The entries below i were compared, with the answer t; the rest decides.
+pub record Compared {A : Type 0} (E : A → A → Bool) (a b : List A) (i : ℕ) (t : Bool) : Type 0 where
+  pub rest : (t && pointwise E (drop i a) (drop i b)) ≡ pointwise E a b
+
+pub none_compared : {A : Type 0} (E : A → A → Bool) (a b : List A) → Compared E a b 0 true
+none_compared E a b = record { rest = refl }
+
+module _ {A : Type 0} {E : A → A → Bool} {a b : List A} {i : ℕ} {t : Bool} (C : Compared E a b i t) where
+  pub one_more : {x y : A} → i < length a → i < length b → x ≡ get_or a i x → y ≡ get_or b i y → Compared E a b (i + 1) (t && E x y)
+  one_more {x} {y} l m e f =
+      let rest = pointwise E (drop (suc i) a) (drop (suc i) b) in
+      let left : drop i a ≡ x ∷ drop (suc i) a = drop-cons a i x l ∙ ap (λ z. z ∷ drop (suc i) a) (sym e) in
+      let right : drop i b ≡ y ∷ drop (suc i) b = drop-cons b i y m ∙ ap (λ z. z ∷ drop (suc i) b) (sym f) in
+      record { rest = rw (add-one i) (and_assoc t (E x y) rest ∙ (rw (left, right) at C.rest)) }
+
+  pub all_compared : length a ≤ i → length b ≤ i → t ≡ pointwise E a b
+  all_compared l m = sym (and-true t) ∙ (rw (drop_of_length-le a l, drop_of_length-le b m) at C.rest)
 
 -- ---- Patterns
 
@@ -65,20 +86,7 @@ pattern_is a b e =
 pub same_pattern_lem : (a b : Pattern) → (same_pattern a b ≡ true) ↔ (a ≡ b)
 same_pattern_lem a b = (pattern_is a b, λ e. rw e (pattern_self b))
 
--- As the derived equality compares them, field by field as they are declared: there the classes are not the first.
-classes_first : (c l n b r : Bool) → (l && (n && (b && (c && r)))) ≡ (c && (l && (n && (b && r))))
-classes_first true l n b r = refl
-classes_first false false n b r = refl
-classes_first false true false b r = refl
-classes_first false true true false r = refl
-classes_first false true true true r = refl
-
-pub derived_is : (a b : Pattern)
-    → (eqb a.len b.len && (eqb a.noholes b.noholes && (pointwise eqb a.bytes b.bytes && (pointwise eqb a.classes b.classes
-    && (pointwise eqb a.order b.order && (pointwise eqb a.shift b.shift && (pointwise eqb a.next b.next && pointwise eqb a.marks b.marks)))))))
-    ≡ same_pattern a b
-unfolding same_pattern same_tables
-derived_is a b =
-    simp pointwise_is
-    (classes_first (same_list a.classes b.classes) (eqb a.len b.len) (eqb a.noholes b.noholes) (same_list a.bytes b.bytes)
-    (same_list a.order b.order && (same_list a.shift b.shift && (same_list a.next b.next && same_list a.marks b.marks))))
+-- With the same classes, the others decide.
+pub tables_decide : (a b : Pattern) → b.classes ≡ a.classes → same_tables a b ≡ same_pattern a b
+unfolding same_pattern
+tables_decide a b e = rw (e, same_self a.classes) refl
