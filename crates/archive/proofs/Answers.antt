@@ -61,10 +61,12 @@ module _ (search : Search) (p : Pattern) (a : List ℕ) (r cap : ℕ) (lent : Li
 
   -- ---- No record to search
 
-  unsearched : (x : Result (Option Report) Refusal) {y : Result (Option Report) Refusal} → answer ≡ after_4 x → ((b : Bool) → listed (unless b (Err FalsePattern) x) asked lent ≡ lent)
+  unsearched : (x : Result (Option Report) Refusal) {y : Result (Option Report) Refusal} → answer ≡ after_4 x
+      → ((b : Bool) → listed (unless b (Err FalsePattern) x) asked lent ≡ lent)
       → y ≡ after_4 x → Answers y lent
   unfolding list_by
-  unsearched x e same f = record { answer = f ∙ sym e; list = sym (ap (λ (z : Result (Option Report) Refusal). listed z asked lent) e ∙ same (is_prepared p)) }
+  unsearched x e same f =
+      record { answer = f ∙ sym e; list = sym (ap (λ (z : Result (Option Report) Refusal). listed z asked lent) e ∙ same (is_prepared p)) }
 
   pub no_record : bounds_by a r ≡ Ok None → {y : Result (Option Report) Refusal} → y ≡ after_4 (Ok None) → Answers y lent
   unfolding answer_by answered listed
@@ -126,7 +128,8 @@ module _ (search : Search) (p : Pattern) (a : List ℕ) (r cap : ℕ) (lent : Li
   -- ---- The promises
 
   -- What is promised of the search of the record's bytes by themselves holds of every answer.
-  pub promised : (P : List ℕ → Report → Type 0) → IfOk answer_alone (P list_alone) → {x : Result (Option Report) Refusal} {after : List ℕ} → Answers x after
+  pub promised : (P : List ℕ → Report → Type 0) → IfOk answer_alone (P list_alone)
+      → {x : Result (Option Report) Refusal} {after : List ℕ} → Answers x after
       → IfRan (P after) x
   promised P holds A = rw (A.answer, A.list) (at (bounds_by a r) refl)
     where
@@ -149,5 +152,6 @@ module _ (search : Search) (p : Pattern) (a : List ℕ) (r cap : ℕ) (lent : Li
       ap (λ w. answered w (is_prepared p) (bounds_by a r) asked) (word_plain p e)
       ∙ ap (λ (s : End). answered (own_bytes p) (is_prepared p) (bounds_by a r) s) same in (
         A.answer ∙ alike,
-        A.list ∙ ap (λ (x : Result (Option Report) Refusal). listed x asked lent) alike ∙ ap (λ (s : End). listed (plain_answer_by search p a r cap (length lent)) s lent) same,
+        A.list ∙ ap (λ (x : Result (Option Report) Refusal). listed x asked lent) alike
+            ∙ ap (λ (s : End). listed (plain_answer_by search p a r cap (length lent)) s lent) same,
       )

@@ -206,7 +206,8 @@ module _ (p : Pattern) (t : List ℕ) (place : ℕ) (r : Part) (within : place <
   not_by lent e = sym same_door ∙ refused_admitted p (part r.start r.end t) no_cap lent (sym e)
 
 -- What is found, joined with the entries kept, is the list brought up to date.
-pub joined_is : (p : Pattern) (t : List ℕ) (place : ℕ) (r : Part) (report : Report) (list lent : List ℕ) (used : ℕ) {after : List ℕ} {answer : Result ℕ Refusal}
+pub joined_is : (p : Pattern) (t : List ℕ) (place : ℕ) (r : Part) (report : Report) (list lent : List ℕ) (used : ℕ) {after : List ℕ}
+    {answer : Result ℕ Refusal}
     → place < length t → Found p t place r report list
     → (J : Joined lent used r.start r.past (moved r.start (take report.written list)) after answer)
     → replaced (take used lent) J.low J.high (moved r.start (take report.written list)) ≡ updated (word_of p) (text_of p t) place (take used lent)
