@@ -7,7 +7,7 @@ use mathlib.Core.List.{List}
 use native.Mathlib.Omega.{arith}
 use Rattle.std.specs.Prelude.{◌≢◌, Option, Some, None, MatchOption}
 use lib.Dec.{eqb}
-use lib.ListN.{length, get_or, take, set, length-set}
+use lib.ListN.{length, get_or, take, set}
 use borrow.Author.Tests.{eqb-true, eqb-false, eq-eqb, ne_eqb}
 use Rattle.words.specs.Numbers.{tabulate}
 use Rattle.words.proofs.Cases.{true_or_false}
@@ -40,7 +40,6 @@ pub record Replays (letters : List ℕ) (m d n size : ℕ) (journal before after
   pub first : List ℕ
   pub list : List ℕ
   pub sized : length first ≡ size
-  pub kept : length after ≡ length before
   pub lent : length before ≡ size → (first ≡ before) × (list ≡ after)
   pub counts : Counts letters m d (journal_source n journal) (length journal) first list b i e c h k
   pub begins : Begins (search (colussi_plan (take m letters)) (journal_source n journal) (length journal) (length first)).last.made journal c
@@ -56,7 +55,6 @@ replays_start letters m d n size journal before = ⊎_elim
       first = first;
       list = first;
       sized = sized;
-      kept = refl;
       lent = λ e. (is e, is e);
       counts = counts_start letters m d _ _ first;
       begins = begins_start _ journal;
@@ -73,9 +71,6 @@ module _ (letters order : List ℕ) (m d : ℕ) (T : LentOrder letters order m d
   -- The list that the replay is to have is full where k is its size.
   pub full_at : k ≡ size → k ≡ length F.list
   full_at e = e ∙ sym list_size
-
-  pub written_upto : k ≤ size
-  written_upto = omega (arith, F.counts.by_rank.scans.follows.room, list_size)
 
   -- The rank is a rank, and comparisons at holes are not more than all comparisons.
   pub bounds : (m ≤ 256) × (d ≤ m) × (i ≤ m) × (h + (i - d) ≤ c) × (c ≤ length journal)
@@ -155,7 +150,6 @@ module _ (letters order : List ℕ) (m d : ℕ) (T : LentOrder letters order m d
           first = F.first;
           list = F.list;
           sized = F.sized;
-          kept = F.kept;
           lent = F.lent;
           counts = count_matched letters order m d T F.counts fits o rank read beyond more (eq-eqb _ _ q);
           begins = reads true (eq-eqb _ _ q);
@@ -168,7 +162,6 @@ module _ (letters order : List ℕ) (m d : ℕ) (T : LentOrder letters order m d
           first = F.first;
           list = F.list;
           sized = F.sized;
-          kept = F.kept;
           lent = F.lent;
           counts = rw adds (count_missed letters order m d T F.counts fits o rank read beyond more (ne_eqb _ _ q) M at_b at_i at-e refl);
           begins = reads false (ne_eqb _ _ q);
@@ -181,7 +174,6 @@ module _ (letters order : List ℕ) (m d : ℕ) (T : LentOrder letters order m d
       first = F.first;
       list = set F.list k v;
       sized = F.sized;
-      kept = length-set after k v ∙ F.kept;
       lent = λ e. ((F.lent e).0, ap (λ x. set x k v) (F.lent e).1);
       counts = count_listed letters order m d T F.counts fits occurs (λ z. l (z ∙ list_size)) M stored at_b at_i refl;
       begins = F.begins;

@@ -5,15 +5,18 @@ use mathlib.Core.List.{List, [], ◌∷◌, ◌++◌}
 use native.Mathlib.Omega.{arith}
 use lib.ListN.{length, take}
 use lib.Seq.{take-length}
+use Rattle.std.specs.Prelude.{Option}
 use Rattle.checked.specs.Check.{IsPrepared}
 use Rattle.checked.proofs.Reading.{fields_of}
 use Rattle.pattern.specs.Letters.{word_of}
 use Rattle.pattern.specs.declared.Pattern.{Pattern}
+use Rattle.rules.specs.declared.Report.{Report}
 use Rattle.search.specs.Internal.ColussiScan.{LentOrder, LentMoves}
 use Rattle.search.proofs.LentTables.{order_of, moves_of}
+use Rattle.replay.proofs.Scanning.{Told}
 
 module _ (p : Pattern) (G : IsPrepared p) where
-  pub whole : take p.len (word_of p) ≡ word_of p
+  whole : take p.len (word_of p) ≡ word_of p
   whole = ap (λ m. take m (word_of p)) (sym (fields_of p G).word) ∙ take-length (word_of p)
 
   pub places : LentOrder (word_of p) p.order p.len p.noholes
@@ -21,6 +24,11 @@ module _ (p : Pattern) (G : IsPrepared p) where
 
   pub moves : LentMoves (word_of p) p.shift p.next p.len
   moves = moves_of p (fields_of p G) whole (omega (arith, (fields_of p G).word))
+
+  -- What a pass tells of the letters that it goes by, it tells of the pattern's.
+  pub of_the_word : (n size : ℕ) (journal before after : List ℕ) (answer : Option Report)
+      → Told (take p.len (word_of p)) n size journal before after answer → Told (word_of p) n size journal before after answer
+  of_the_word n size journal before after answer told = rw whole at told
 
 -- A list after a part of it without entries was lent.
 pub nothing_written : (part rest : List ℕ) → length part ≡ 0 → part ++ rest ≡ rest
