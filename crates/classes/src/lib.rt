@@ -10,7 +10,7 @@ pub const CLASSES: usize = 256;
 // Puts the letters of bytes, the class of each, at the start of a list, which needs room for all of them. The rest of it is unchanged. A list
 // that is too short is unchanged, and so is one beside other than CLASSES classes.
 #[tactic(auto, using(crate::proofs::Letters::no_room, crate::proofs::Letters::not_256))]
-pub fn put_letters<'a>(bytes: &'a [u8], classes: &'a [u8], letters: &mut [u8])
+pub fn put_letters(bytes: &[u8], classes: &[u8], letters: &mut [u8])
     ensures put { letters.new ≡ letters_in bytes.now classes.now letters.old }
 {
     if letters.len() < bytes.len() {

@@ -35,7 +35,7 @@ pub fn is_arrangement(order: &[u8], m: usize) -> bool
 // unchanged. Without a letter, with more letters than a byte can name places, with fewer than m + 1 entries, and beside an order that is not an
 // arrangement of the places, the table is unchanged.
 #[tactic(auto, using(crate::proofs::Filling::table_cases))]
-pub fn fill_shifts<'a>(letters: &'a [u8], order: &'a [u8], shifts: &mut [u16])
+pub fn fill_shifts(letters: &[u8], order: &[u8], shifts: &mut [u16])
     ensures filled { shifts.new ≡ shifts_after letters.now order.now shifts.old }
 {
     let m = letters.len();

@@ -75,7 +75,7 @@ fn not_built() -> Built
 
 // Builds the pattern of 1 to LONGEST_PATTERN bytes through CLASSES classes in a scratch of at least SCRATCH numbers. The scratch then holds two
 // of its tables, and is unchanged elsewhere. With other lengths no pattern is built, and the scratch is unchanged.
-pub fn build<'a>(bytes: &'a [u8], classes: &'a [u8], scratch: &mut [u16]) -> Built
+pub fn build(bytes: &[u8], classes: &[u8], scratch: &mut [u16]) -> Built
     ensures answer { result ≡ built_from bytes.now classes.now (length scratch.old) }
     ensures scratched { scratch.new ≡ scratch_with bytes.now classes.now scratch.old }
 {

@@ -50,11 +50,7 @@ pub extern "C" fn poqewan_identity(classes: &mut [u8])
 // longest pattern has (2), a byte 0 among them (10), not 256 classes (14), a value other than 0 with the class of 0 (15), a scratch of too few
 // numbers (3). After success the scratch begins with that many zeros and the rest is unchanged; after a refusal all of it is.
 #[unsafe(no_mangle)]
-pub extern "C" fn poqewan_prepare<'a>(
-    bytes: &'a [u8],
-    classes: &'a [u8],
-    scratch: &mut [u16],
-) -> Preparation
+pub extern "C" fn poqewan_prepare(bytes: &[u8], classes: &[u8], scratch: &mut [u16]) -> Preparation
     ensures answer { result ≡ carried_preparation (prepared bytes.now classes.now (length scratch.old)) }
     ensures scratched { scratch.new ≡ scratch_after bytes.now classes.now scratch.old }
     ensures taken { (result.refusal ≡ 0) ↔ (Preparable bytes.now × Usable classes.now × (scratch_size ≤ length scratch.old)) }
@@ -125,10 +121,10 @@ pub extern "C" fn poqewan_kmp(
 // bytes and classes (4), an order that is not an arrangement of the pattern's places (16), a text that is longer than the longest (5). Run to its
 // end, it lists what `poqewan_colussi` lists. The count has no ceiling.
 #[unsafe(no_mangle)]
-pub extern "C" fn poqewan_ordered<'a>(
+pub extern "C" fn poqewan_ordered(
     pattern: Pattern,
-    order: &'a [u8],
-    text: &'a [u8],
+    order: &[u8],
+    text: &[u8],
     cap: u64,
     positions: &mut [u32],
 ) -> SearchReport
@@ -177,11 +173,11 @@ pub extern "C" fn poqewan_journaled(
 // for its own length, bytes and classes (4), a text that is longer than the longest (5), a journal with an entry whose place is not the one that the
 // rules compare next, or with entries that remain after done or full (18).
 #[unsafe(no_mangle)]
-pub extern "C" fn poqewan_replay<'a>(
+pub extern "C" fn poqewan_replay(
     pattern: Pattern,
     n: usize,
     positions: &mut [u32],
-    journal: &'a [u32],
+    journal: &[u32],
 ) -> SearchReport
     ensures answer { result ≡ carried (replays.answer_of pattern n journal.now (length positions.old)) }
     ensures list { positions.new ≡ replays.list_of pattern n journal.now positions.old }
