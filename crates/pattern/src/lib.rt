@@ -20,7 +20,7 @@ pub use sizes::RANKS;
 
 // Document 01's card: the pattern, its classes and its tables. The entries past those defined are 0.
 #[repr(C)]
-#[derive(Clone, Copy, PartialEq, Eq)]
+#[derive(Clone, Copy)]
 pub struct Pattern {
     // m, from 1 to 256
     pub len: usize,
