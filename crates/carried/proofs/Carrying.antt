@@ -1,6 +1,6 @@
 -- An answer that crosses to C is read back as it was, so what is promised of it holds of what C receives. Assumes nothing.
 use Prim.Native.Nat.{ℕ, ◌<◌}
-use mathlib.Core.Path.{◌≡◌, refl}
+use mathlib.Core.Path.{◌≡◌, refl, ap}
 use mathlib.Core.Logic.{◌↔◌}
 use native.Mathlib.Omega.{arith}
 use Rattle.std.specs.Prelude.{Option, Some, None, Result, Ok, Err, IsOk, IfOk, IfSome}
@@ -37,18 +37,22 @@ promised_to_c P a e holds none = rw e (of a holds (rw e at none))
     of (Ok r) holds z = rw (report_back r) holds
     of (Err why) holds z = absurd (number_not_0 why z)
 
--- What is promised of the search for the first position holds of what C receives with refusal 0.
-pub first_promised_to_c : (P : FirstAnswer → Type 0) (a : Result FirstAnswer Refusal) {r : First} → r ≡ carried_first a → IfOk a P → r.refusal ≡ 0
-    → P (first_in r)
-first_promised_to_c P a e holds none = rw e (of a holds (rw e at none))
+-- The answer of the search for the first position is read back as it was, beside refusal 0.
+pub first_back : (a : Result FirstAnswer Refusal) {r : First} → r ≡ carried_first a → r.refusal ≡ 0 → a ≡ Ok (first_in r)
+first_back a e none = rw e (of a (rw e at none))
   where
-    back : (o : Option ℕ) (count : ℕ) → first_in (first_found o count) ≡ record { position = o; count = count }
+    back : (o : Option ℕ) (count : ℕ) → record { position = o; count = count } ≡ first_in (first_found o count)
     back (Some b) count = refl
     back None count = refl
 
-    of : (a : Result FirstAnswer Refusal) → IfOk a P → (carried_first a).refusal ≡ 0 → P (first_in (carried_first a))
-    of (Ok r) holds z = rw (back r.position r.count) holds
-    of (Err why) holds z = absurd (number_not_0 why z)
+    of : (a : Result FirstAnswer Refusal) → (carried_first a).refusal ≡ 0 → a ≡ Ok (first_in (carried_first a))
+    of (Ok r) z = ap Ok (back r.position r.count)
+    of (Err why) z = absurd (number_not_0 why z)
+
+-- So what is promised of it holds of what C receives with refusal 0.
+pub first_promised_to_c : (P : FirstAnswer → Type 0) (a : Result FirstAnswer Refusal) {r : First} → r ≡ carried_first a → IfOk a P → r.refusal ≡ 0
+    → P (first_in r)
+first_promised_to_c P a e holds none = rw (first_back a e none) at holds
 
 -- What is promised of a count of the call for prefix lengths holds of the one that C receives with refusal 0.
 pub count_promised_to_c : (P : ℕ → Type 0) (a : Result ℕ Refusal) {r : Lengths} → r ≡ carried_lengths a → IfOk a P → r.refusal ≡ 0 → P r.count
