@@ -9,8 +9,8 @@ use refusal::Refusal;
 // The longest text, in bytes.
 pub const LONGEST_TEXT: usize = 60000;
 
-// The length of the pattern of an input that is accepted: a length byte, so many pattern bytes, and the text to the end. Refused, in this order: a length of 0, or no input (1), fewer bytes than the length says (6), a byte 0 among those (10), a text of more than
-// LONGEST_TEXT bytes (5).
+// The length of the pattern of an input that is accepted: a length byte, so many pattern bytes, and the text to the end. Refused, in this order: a
+// length of 0, or no input (1), fewer bytes than the length says (6), a byte 0 among those (10), a text of more than LONGEST_TEXT bytes (5).
 #[tactic(auto, using(crate::proofs::Cut::pattern_cut_lem), unfolding(crate::specs::Parsed::parsed))]
 pub fn parse(input: &[u8]) -> Result<usize, Refusal>
     ensures answer { result ≡ parsed input.now }
