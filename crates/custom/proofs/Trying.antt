@@ -70,24 +70,25 @@ module _ (w order : List ℕ) (i : ℕ) where
       tests_reject out l = next_tried T.tries T.inside (by_match w order i k j l out) (passed_more w order passed k j T.inside T.tries.known T.allow)
 
       -- No rank rules it out: it is the shift.
-      pub tests_end : 1 ≤ length w → i ≤ j → (k ≡ custom_shift w order i) × Passed w order (set passed k i)
-      tests_end some l = (
+      pub tests_end : 1 ≤ length w → i ≤ j → {v : ℕ} → v ≤ j → (k ≡ custom_shift w order i) × Passed w order (set passed k v)
+      tests_end some l {v} within = (
         shift_only w order i some k record {
           on = T.tries.on;
           upto = T.tries.upto;
           passed = λ d a b. T.tries.rejected d b a;
           stays = λ g. by_nothing w order i k T.present (λ r h. T.allow r (omega arith));
         },
-        passed_more w order passed k i T.inside T.tries.known (λ r h. T.allow r (omega arith)),
+        passed_more w order passed k v T.inside T.tries.known (λ r h. T.allow r (omega arith)),
       )
 
     -- All below m are ruled out: it is m.
-    pub tries_end : 1 ≤ length w → Tries passed k → length w ≤ k → length w ≡ custom_shift w order i
-    tries_end some T l =
-        let last : k ≡ length w = omega (arith, T.upto) in
-        rw last at (shift_only w order i some k record {
-          on = T.on;
-          upto = T.upto;
-          passed = λ d a b. T.rejected d b a;
-          stays = λ g. absurd (omega arith);
-        })
+    pub tries_end : 1 ≤ length w → Tries passed k → length w ≤ k → (k ≡ custom_shift w order i) × Passed w order passed
+    tries_end some T l = (
+      shift_only w order i some k record {
+        on = T.on;
+        upto = T.upto;
+        passed = λ d a b. T.rejected d b a;
+        stays = λ g. absurd (omega arith);
+      },
+      T.known,
+    )

@@ -32,7 +32,7 @@ use Rattle.search.specs.Promise.{UnderCeiling}
 use Rattle.search.proofs.Answers as plain-search
 use Rattle.search.proofs.Answers.{AnswersAt, refused_at, ran_at, promised_at}
 use Rattle.search.proofs.Promises.{in_columns}
-use Rattle.replay.proofs.Scanning.{Told}
+use Rattle.replay.specs.Internal.{Followed}
 use Rattle.replay.specs.Answer.{admitted_by, answer_of, list_of, plain_answer_of, plain_list_of}
 use Rattle.replay.specs.Promise.{OnAnyText, GivesBack, Whole}
 
@@ -60,14 +60,14 @@ module _ (p : Pattern) (n : ℕ) (journal lent : List ℕ) where
     false_journal refuses = refused_at _ _ _ _ (refused_then (accepted (word_of p) n journal (length lent)) FalseJournal e refuses)
 
     -- The first pass, over whatever list, does not accept the journal.
-    pub none_accepted : (before after : List ℕ) (first : Option Report) → Told (word_of p) n (length lent) journal before after first
+    pub none_accepted : (before after : List ℕ) (first : Option Report) → Followed (word_of p) n (length lent) journal before after first
         → {why : Refusal} → Err why ≡ ok_or first FalseJournal → Answers (Err why) lent
     none_accepted before after None refuses is = rw is (false_journal refuses)
     none_accepted before after (Some r) told is = cc
 
     -- It does, and so the second one does too, which fills the list.
-    pub ran : (before between after : List ℕ) (first second : Option Report) → Told (word_of p) n (length lent) journal before between first
-        → {r : Report} → Ok r ≡ ok_or first FalseJournal → Told (word_of p) n (length lent) journal lent after second
+    pub ran : (before between after : List ℕ) (first second : Option Report) → Followed (word_of p) n (length lent) journal before between first
+        → {r : Report} → Ok r ≡ ok_or first FalseJournal → Followed (word_of p) n (length lent) journal lent after second
         → Answers (ok_or second FalseJournal) after
     unfolding admitted_by
     ran before between after None second refuses is again = cc

@@ -29,11 +29,7 @@ use Rattle.rules.specs.declared.Report.{Report}
 use Rattle.search.specs.Internal.ColussiScan.{LentOrder, LentMoves, edge_after_rank}
 use Rattle.rules.proofs.Scans.{rank_upto, column_upto}
 use Rattle.search.proofs.LentTables.{word_some, word_length, noholes_upto}
-use Rattle.replay.specs.Internal.{Accepting}
-
--- What a pass tells.
-abbrev pub Told : List ℕ → ℕ → ℕ → List ℕ → List ℕ → List ℕ → Option Report → Type 0
-Told w n size journal before after answer = MatchOption answer (accepted w n journal size ≡ false) (Accepting w n size journal before after)
+use Rattle.replay.specs.Internal.{Accepting, Followed}
 
 -- The replay goes by this state, with a list of the size that it is to have. That is the lent one, if it has this size.
 pub record Replays (letters : List ℕ) (m d n size : ℕ) (journal before after : List ℕ) (b i e c h k : ℕ) : Type 0 where
@@ -123,7 +119,7 @@ module _ (letters order : List ℕ) (m d : ℕ) (T : LentOrder letters order m d
     -- The report is told, unless entries remain.
     pub replays_end : (answer : Option Report)
         → MatchOption answer (c ≢ length journal) (λ r. (c ≡ length journal) × (r ≡ ended_with x c (c - (h + (i - d))) (h + (i - d)) k))
-        → Told w n size journal before after answer
+        → Followed w n size journal before after answer
     replays_end None remain = some_remain remain
     replays_end (Some r) read = rw read.1 (whole_read read.0)
 
@@ -183,7 +179,7 @@ module _ (letters order : List ℕ) (m d : ℕ) (T : LentOrder letters order m d
 pub at_once : (letters order : List ℕ) (m d : ℕ) → LentOrder letters order m d → (n size : ℕ) (journal before : List ℕ) → n < m
     → (answer : Option Report)
     → MatchOption answer (0 ≢ length journal) (λ r. (0 ≡ length journal) × (r ≡ ended_with Done 0 0 0 0))
-    → Told (take m letters) n size journal before before answer
+    → Followed (take m letters) n size journal before before answer
 at_once letters order m d T n size journal before l answer read =
     let F = replays_start letters m d n size journal before in
     let none : 0 + (0 - d) ≡ 0 = omega arith in

@@ -13,7 +13,7 @@ use Rattle.pattern.specs.declared.Pattern.{Pattern}
 use Rattle.rules.specs.declared.Report.{Report}
 use Rattle.search.specs.Internal.ColussiScan.{LentOrder, LentMoves}
 use Rattle.search.proofs.LentTables.{order_of, moves_of}
-use Rattle.replay.proofs.Scanning.{Told}
+use Rattle.replay.specs.Internal.{Followed, FollowedFor}
 
 module _ (p : Pattern) (G : IsPrepared p) where
   whole : take p.len (word_of p) ≡ word_of p
@@ -26,9 +26,15 @@ module _ (p : Pattern) (G : IsPrepared p) where
   moves = moves_of p (fields_of p G) whole (omega (arith, (fields_of p G).word))
 
   -- What a pass tells of the letters that it goes by, it tells of the pattern's.
+  pub of_whole : (n size : ℕ) (journal before after : List ℕ) (answer : Option Report)
+      → Followed (take p.len (word_of p)) n size journal before after answer → Followed (word_of p) n size journal before after answer
+  of_whole n size journal before after answer told = rw whole at told
+
+  -- What a pass tells of whatever pattern the tables are, it tells of these letters.
   pub of_the_word : (n size : ℕ) (journal before after : List ℕ) (answer : Option Report)
-      → Told (take p.len (word_of p)) n size journal before after answer → Told (word_of p) n size journal before after answer
-  of_the_word n size journal before after answer told = rw whole at told
+      → FollowedFor p.order p.shift p.next p.len p.noholes n size journal before after answer
+      → Followed (word_of p) n size journal before after answer
+  of_the_word n size journal before after answer G = of_whole n size journal before after answer (G (word_of p) places moves)
 
 -- A list after a part of it without entries was lent.
 pub nothing_written : (part rest : List ℕ) → length part ≡ 0 → part ++ rest ≡ rest

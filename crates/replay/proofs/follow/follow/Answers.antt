@@ -10,12 +10,12 @@ use Rattle.search.specs.Internal.ColussiScan.{edge_after_rank}
 use Rattle.search.proofs.ColussiScan.{shift_on, edge_early, edge_late, noholes_passed, due_place, none_due}
 use Rattle.replay.proofs.Scanning.{Replays, replays_start, at_once, bounds, whole_read, replays_end, another_place}
 use Rattle.replay.proofs.Scanning.{replays_matched, replays_missed, replays_listed, full_at}
-use Rattle.replay.proofs.Tables.{of_the_word, places, moves}
+use Rattle.replay.proofs.Tables.{of_whole, places, moves}
 use Rattle.replay.proofs.follow.follow.Goals as goal
 use Rattle.replay.proofs.follow.follow.Goals.{After-from-i, then-k-positions, else-k-positions}
 
 pub returns-then-n-m : goal.returns-then-n-m
-returns-then-n-m c = of_the_word _ c.requires.prepared _ _ _ _ _ _
+returns-then-n-m c = of_whole _ c.requires.prepared _ _ _ _ _ _
     (at_once _ _ _ _ (places _ c.requires.prepared) _ c.args.size c.args.journal.now c.args.positions.now c.if-n-m.true _
     (rw c.with_holes.ensures.answer at c.if_all_read.ensures))
 
@@ -33,7 +33,7 @@ returns-then-c-journal c =
     let T = places _ c.requires.prepared in
     let F = c.loop-b.invariant in
     let due = c.due.ensures.yes c.if-due.true in
-    rw c.ended.ensures (of_the_word _ c.requires.prepared _ _ _ _ _ (Some _) (whole_read _ _ _ _ T F (Spent c.loop-b.b)
+    rw c.ended.ensures (of_whole _ c.requires.prepared _ _ _ _ _ (Some _) (whole_read _ _ _ _ T F (Spent c.loop-b.b)
     (count_spent _ _ _ _ T F.counts (omega arith) _ due.0 refl due.1 c.if-c-journal.true) c.if-c-journal.true))
 
 pub bounds-pattern-i : goal.bounds-pattern-i
@@ -44,7 +44,7 @@ returns-then-v-b c =
     let G = c.requires.prepared in
     let due = due_place _ _ _ _ (places _ G) c.due.ensures c.if-due.true c.from.ensures in
     let room : c.loop-b.c < length c.args.journal.now = omega (arith, bounds _ _ _ _ (places _ G) c.loop-b.invariant) in
-    of_the_word _ G _ _ _ c.args.positions.now c.loop-b.positions None
+    of_whole _ G _ _ _ c.args.positions.now c.loop-b.positions None
     (another_place _ _ _ _ (places _ G) c.loop-b.invariant (omega arith) _ due.0 c.from.ensures due.1 room c.if-v-b.true)
 
 pub loop-b-preserved-then-equal : goal.loop-b-preserved-then-equal
@@ -110,7 +110,7 @@ returns-then-k-size c =
     let F = c.loop-b.invariant in
     let fits : c.loop-b.b + c.args.pattern.now.len ≤ c.args.n = omega arith in
     let occurs = none_due _ _ _ _ (places _ G) F.counts.by_rank fits c.due.ensures c.if-due.false in
-    of_the_word _ G _ _ _ _ _ _ (replays_end _ _ _ _ (places _ G) F (Full c.loop-b.b)
+    of_whole _ G _ _ _ _ _ _ (replays_end _ _ _ _ (places _ G) F (Full c.loop-b.b)
     (count_full _ _ _ _ (places _ G) F.counts fits occurs
     (full_at _ _ _ _ (places _ G) F c.if-k-size.true))
     _ (rw c.ended-then-k-size.ensures at c.if_all_read-then-k-size.ensures))
@@ -158,5 +158,5 @@ pub returns : goal.returns
 returns c =
     let G = c.requires.prepared in
     let F = c.loop-b.invariant in
-    of_the_word _ G _ _ _ _ _ _ (replays_end _ _ _ _ (places _ G) F Done (count_done _ _ _ _ (places _ G) F.counts (omega arith))
+    of_whole _ G _ _ _ _ _ _ (replays_end _ _ _ _ (places _ G) F Done (count_done _ _ _ _ (places _ G) F.counts (omega arith))
     _ (rw c.ended-2.ensures at c.if_all_read-2.ensures))

@@ -16,8 +16,9 @@ distances-preserved c = record {
 }
 
 pub returns-after-ranks-clause-value : goal.returns-after-ranks-clause-value
-returns-after-ranks-clause-value c = (tests_end _ _ _ c.ranks.invariant c.args.self.now.lent.some (omega arith)).0
+returns-after-ranks-clause-value c = (tests_end _ _ _ c.ranks.invariant c.args.self.now.lent.some (omega arith) {v = c.args.i} (omega arith)).0
 
 pub returns-after-distances-clause-value : goal.returns-after-distances-clause-value
 returns-after-distances-clause-value c =
-    c.distances.invariant.none ∙ tries_end _ _ _ c.args.self.now.lent.some c.distances.invariant.tries (omega arith)
+    let tries = c.distances.invariant.tries in
+    omega (arith, (tries_end _ _ _ c.args.self.now.lent.some tries (omega arith)).0, tries.upto)
