@@ -49,7 +49,8 @@ impl<'a> Text<'a> {
 fn reach(letters: &[u8], order: &[u8], text: Text, b: usize, end: usize) -> Option<usize>
     requires le_end { (1 ≤ end) × (end ≤ length order.now) × (b + length letters.now ≤ length text.bytes.now) }
     requires by_index { (i : ℕ) → i < length order.now → get_or order.now i 0 < length letters.now }
-    ensures { let t = letters_of text.entry in MatchOption result (Agreed letters.now order.now t b end) (λ r. Reaches letters.now order.now t b end r) }
+    ensures { let t = letters_of text.entry in
+        MatchOption result (Agreed letters.now order.now t b end) (λ r. Reaches letters.now order.now t b end r) }
 {
     for i in 1..end {
         let place = order[i] as usize;
