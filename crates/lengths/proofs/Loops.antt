@@ -1,10 +1,7 @@
 -- The loops: what each has found and written on its way. Assumes nothing.
 use Prim.Native.Nat.{ℕ, ◌+◌, ◌-◌, ◌≤◌, ◌<◌, min}
-use mathlib.Core.Path.{◌≡◌, refl, ap, ◌∙◌}
-use mathlib.Core.Logic.{◌⊎◌, ⊎_elim, inl, inr}
-use mir.Val.{bool_byte}
-use lib.Dec.{ltb}
-use borrow.Author.Tests.{lt-ltb, le-ltb}
+use mathlib.Core.Path.{◌≡◌, refl, ◌∙◌}
+use mathlib.Core.Logic.{⊎_elim}
 use mathlib.Core.List.{List}
 use native.Mathlib.Omega.{arith}
 use lib.ListN.{length, get_or, set, length-set}
@@ -27,39 +24,22 @@ one_more P a k below at p from l = ⊎_elim (λ (h : p < k). below p from h) (λ
 -- ---- Windows that miss at place 0
 
 module _ (t : List ℕ) (x : ℕ) (before : List ℕ) (b : ℕ) where
-  -- Those from b on and below r are passed.
-  pub record Passed (s : List ℕ) (r : ℕ) : Type 0 where
-    pub from : b ≤ r
-    pub upto : r ≤ length t
-    pub missed : (y : ℕ) → b ≤ y → y < r → x ≡ letter t y → ⊥
-    pub zeros : Writes (λ k. 0) before s b (r - b)
-
-  pub passed_none : b ≤ length t → Passed before b
+  pub passed_none : b ≤ length t → Passes t x before before b b
   passed_none l =
       let z : b - b ≡ 0 = omega arith in
       record { from = omega arith; upto = l; missed = λ y a h. absurd (omega arith); zeros = rw z (writes_none (λ k. 0) before b) }
 
-  module _ {s : List ℕ} {r : ℕ} (P : Passed s r) where
-    pub passed_one : r < length t → r < length s → (x ≡ letter t r → ⊥) → Passed (set s r 0) (r + 1)
-    passed_one inside room differ =
-        let at : b + (r - b) ≡ r = omega (arith, P.from) in
-        let more : r - b + 1 ≡ r + 1 - b = omega (arith, P.from) in
-        record {
-          from = omega (arith, P.from);
-          upto = omega arith;
-          missed = one_more (λ y. x ≡ letter t y → ⊥) b r P.missed differ;
-          zeros = rw (at, more) at (writes_one (λ k. 0) before b {s = s} {k = r - b} {v = 0} (omega arith) refl P.zeros);
-        }
-
-    pub passed_all : (r < length t → x ≡ letter t r) → Passes t x before s b r
-    passed_all found = record { from = P.from; upto = P.upto; missed = P.missed; found = found; zeros = P.zeros }
-
--- The first that begins with x has that letter matched, and the text's end nothing.
-pub matched_there : (w n : ℕ) {m : ℕ} → w ≤ n → m ≡ bool_byte (ltb w n) → ((w < n) × (m ≡ 1)) ⊎ ((w ≡ n) × (m ≡ 0))
-matched_there w n upto is = ⊎_elim
-    (λ (l : w < n). inl (l, is ∙ ap bool_byte (lt-ltb w n l)))
-    (λ (l : n ≤ w). inr (omega arith, is ∙ ap bool_byte (le-ltb w n l)))
-    (less_or w n)
+  pub passed_one : {s : List ℕ} {r : ℕ} → Passes t x before s b r → r < length t → r < length s → (x ≡ letter t r → ⊥)
+      → Passes t x before (set s r 0) b (r + 1)
+  passed_one {s} {r} P inside room differ =
+      let at : b + (r - b) ≡ r = omega (arith, P.from) in
+      let more : r - b + 1 ≡ r + 1 - b = omega (arith, P.from) in
+      record {
+        from = omega (arith, P.from);
+        upto = omega arith;
+        missed = one_more (λ y. x ≡ letter t y → ⊥) b r P.missed differ;
+        zeros = rw (at, more) at (writes_one (λ k. 0) before b {s = s} {k = r - b} {v = 0} (omega arith) refl P.zeros);
+      }
 
 -- ---- A window left
 

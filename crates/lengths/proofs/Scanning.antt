@@ -70,21 +70,21 @@ module _ (w t before : List ℕ) (some : 1 ≤ length w) where
   pub scans_begun : {s after : List ℕ} {b i again b' i' : ℕ} → Scans w t before s b i again → Begins t (letter w 0) s after b i b' i'
       → Scans w t before after b' i' again
   scans_begun S (inl h) = rw (h.1, h.2, h.3) S
-  scans_begun {s} {after} {b} {i} {again} {b'} {i'} S (inr (none, P, inl h)) = at (rw none at S)
+  scans_begun {s} {after} {b} {i} {again} {b'} {i'} S (inr (none, inl (one, N))) = at (rw none at S)
     where
       at : Scans w t before s b 0 again → Scans w t before after b' i' again
       at S =
           let z : again + (b' + 1) ≡ suc (again + b') = omega arith in
-          rw h.1 record {
-            stands = rw z (stands_matched w t some (passed S P) some (omega (arith, h.0)) (P.found h.0 ∙ ap (letter t) (omega arith)));
-            right = right S P;
+          rw one record {
+            stands = rw z (stands_matched w t some (passed S N.passes) some (omega (arith, N.inside)) (N.found ∙ ap (letter t) (omega arith)));
+            right = right S N.passes;
           }
-  scans_begun {s} {after} {b} {i} {again} {b'} {i'} S (inr (none, P, inr h)) = at (rw none at S)
+  scans_begun {s} {after} {b} {i} {again} {b'} {i'} S (inr (none, inr (zero, end, P))) = at (rw none at S)
     where
       at : Scans w t before s b 0 again → Scans w t before after b' i' again
       at S =
           let z : again + (b' + 0) ≡ again + b' = omega arith in
-          rw h.1 record { stands = rw z (passed S P); right = right S P }
+          rw zero record { stands = rw z (passed S P); right = right S P }
 
   -- ---- A window compared and left
 

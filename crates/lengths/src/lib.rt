@@ -20,6 +20,7 @@ use classes::put_letters;
 use hmax::fill_hmax;
 use pattern::{LONGEST_PATTERN, Pattern, RANKS};
 use refusal::Refusal;
+use scan::Prefixes;
 use steps::Text;
 
 // The scan for a pattern's letters in those of a text, with their table of hmax.
@@ -41,7 +42,11 @@ fn scan_for(pattern: &Pattern, text: &[u8], lengths: &mut [u16]) -> u64
         classes: &pattern.classes,
         bytes: text,
     };
-    scan::scan(letters, &table, text, lengths)
+    let prefixes = Prefixes {
+        letters,
+        hmax: &table,
+    };
+    prefixes.scan(text, lengths)
 }
 
 // Writes into entry x of a list, for each position x of a text, the length of the longest prefix of the pattern that begins there. The entries past

@@ -1,9 +1,9 @@
 // The steps of a scan: windows that miss at place 0, a window's letters compared, and a window left. The comparisons that the scan counts are made
 // here, each once.
-ghost use Rattle.std.specs.Prelude.{◌≡◌, ℕ, ◌+◌, ◌≤◌, ◌<◌, min, eqb, length, get_or};
+ghost use Rattle.std.specs.Prelude.{◌≡◌, ℕ, ◌+◌, ◌≤◌, ◌<◌, min, eqb, length, get_or, MatchOption};
 ghost use Rattle.words.specs.Tables.{letter};
 ghost use Rattle.hmax.specs.Table.{entry_bound};
-ghost use Rattle.lengths.specs.Internal.Steps.{letters_of, Passes, Begins, Extends, LeavesBy, Stays};
+ghost use Rattle.lengths.specs.Internal.Steps.{letters_of, Passes, Finds, Begins, Extends, LeavesBy, Stays};
 
 use classes::CLASSES;
 
@@ -26,19 +26,19 @@ impl<'a> Text<'a> {
     }
 }
 
-// The first position from `from` on that has the letter x, or the text's end. A window that does not begin with x has nothing matched: its entry
-// is 0.
-fn pass(x: u8, text: Text, lengths: &mut [u16], from: usize) -> usize
+// The first position from `from` on that has the letter x. A window that does not begin with x has nothing matched: its entry is 0.
+fn pass(x: u8, text: Text, lengths: &mut [u16], from: usize) -> Option<usize>
     requires { (from ≤ length text.bytes.now) × (length text.bytes.now ≤ length lengths.old) }
-    ensures { Passes (letters_of text.entry) x lengths.old lengths.new from result }
+    ensures { let t = letters_of text.entry in
+        MatchOption result (Passes t x lengths.old lengths.new from (length text.entry.bytes.now)) (λ r. Finds t x lengths.old lengths.new from r) }
 {
     for b in from..text.bytes.len() {
         if text.agrees(x, b) {
-            return b;
+            return Some(b);
         }
         lengths[b] = 0;
     }
-    text.bytes.len()
+    None
 }
 
 // A window, and how much of the pattern is matched in it.
@@ -48,7 +48,8 @@ pub struct Spot {
     pub matched: usize,
 }
 
-// Where letters are compared on from window b: there, if something is matched in it; else in the first window that begins with x.
+// Where letters are compared on from window b: there, if something is matched in it; else in the first window that begins with x, or at the text's
+// end.
 pub fn begin(x: u8, text: Text, lengths: &mut [u16], b: usize, i: usize) -> Spot
     requires { (b ≤ length text.bytes.now) × (length text.bytes.now ≤ length lengths.old) }
     ensures { Begins (letters_of text.entry) x lengths.old lengths.new b i result.window result.matched }
@@ -59,10 +60,12 @@ pub fn begin(x: u8, text: Text, lengths: &mut [u16], b: usize, i: usize) -> Spot
             matched: i,
         };
     }
-    let window = pass(x, text, lengths, b);
-    Spot {
-        window,
-        matched: usize::from(window < text.bytes.len()),
+    match pass(x, text, lengths, b) {
+        Some(window) => Spot { window, matched: 1 },
+        None => Spot {
+            window: text.bytes.len(),
+            matched: 0,
+        },
     }
 }
 

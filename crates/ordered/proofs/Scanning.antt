@@ -23,7 +23,7 @@ use Rattle.rules.specs.declared.Ending.TheVariants.{Done, Spent, Full}
 use Rattle.rules.proofs.Columns.{Split, by_noholes}
 use Rattle.rules.proofs.Following.{Ranges}
 use Rattle.rules.proofs.Scans.{Scans, column_upto, scans_as, scans_start, scans_done, scans_spent, scans_full, scans_matched, scans_missed, scans_listed}
-use Rattle.ordered.specs.Internal.{letters_of, noholes_among, Reaches, LentTables}
+use Rattle.ordered.specs.Internal.{letters_of, noholes_among, Agreed, Reaches, LentTables}
 use Rattle.ordered.specs.declared.scan.Text.{Text}
 use Rattle.ordered.proofs.Among.{among_none, among_more}
 
@@ -96,45 +96,43 @@ module _ {w order shifts among : List ℕ} (T : LentTables w order shifts among)
     scan_spent none = scans_spent _ _ _ cap before R F.scans (by_noholes w F.scans.made F.scans.count F.scans.column)
         fits (due 0 T.some) (omega (arith, F.within))
 
-    -- Rank 0 agrees, and the others up to r.
-    module _ (met : true ≡ eqb (letter w (get_or order 0 0)) (letter text (b + get_or order 0 0))) {end r : ℕ} (is : end ≡ min left (length w))
-        (N : Reaches w order text b end r) where
-      agreed : (j : ℕ) → j < r → Agrees j
-      agreed zero l = true-eqb _ _ met
-      agreed (suc j) l = N.same (suc j) l (omega arith)
+    -- Rank 0 agrees.
+    module _ (met : true ≡ eqb (letter w (get_or order 0 0)) (letter text (b + get_or order 0 0))) {end : ℕ} (is : end ≡ min left (length w)) where
+      ranks : {r : ℕ} → Agreed w order text b r → (j : ℕ) → j < r → Agrees j
+      ranks A zero l = true-eqb _ _ met
+      ranks A (suc j) l = A.same (suc j) l (omega arith)
 
       -- The window is left with rank r.
-      pub scan_left : r < end → {s v : ℕ} → s ≡ get_or shifts r 0 → v ≡ get_or among (r + 1) 0
+      pub scan_left : {r : ℕ} → Reaches w order text b end r → {s v : ℕ} → s ≡ get_or shifts r 0 → v ≡ get_or among (r + 1) 0
           → InOrder w order text cap before after (b + s) (left - (r + 1)) (q + v) k
-      scan_left l moved counted = scan_missed r (omega arith) (omega arith) agreed (N.ends l) moved counted
+      scan_left {r} N moved counted = scan_missed r (omega (arith, N.upto)) (omega (arith, N.upto)) (ranks N.agreed) N.differs moved counted
 
-      pub left_few : r < end → {v : ℕ} → v ≡ get_or among (r + 1) 0 → q + v ≤ cap
-      left_few l counted = omega (arith, column_upto (scan_left l refl counted).scans)
+      pub left_few : {r : ℕ} → Reaches w order text b end r → {v : ℕ} → v ≡ get_or among (r + 1) 0 → q + v ≤ cap
+      left_few N counted = omega (arith, column_upto (scan_left N refl counted).scans)
 
       -- The comparisons that the cap allows agree.
-      module _ (all : end ≤ r) {v : ℕ} (counted : v ≡ get_or among r 0) where
-        reached : Scans (nohole w) (custom_plan order w) (text_source w text) cap before after b r 0 (cap - (left - r)) (q + v) k
-        reached = scans_as (at_rank r (omega (arith, N.upto)) (omega (arith, N.upto)) agreed) refl
-            (ap (λ n. q + n) (counted ∙ T.among_at r (omega (arith, N.upto))))
+      module _ (A : Agreed w order text b end) {v : ℕ} (counted : v ≡ get_or among end 0) where
+        reached : Scans (nohole w) (custom_plan order w) (text_source w text) cap before after b end 0 (cap - (left - end)) (q + v) k
+        reached = scans_as (at_rank end (omega arith) (omega arith) (ranks A)) refl (ap (λ n. q + n) (counted ∙ T.among_at end (omega arith)))
 
-        columns : Split w reached.made (q + v) (cap - (left - r) - (q + v))
+        columns : Split w reached.made (q + v) (cap - (left - end) - (q + v))
         columns = by_noholes w reached.made reached.count reached.column
 
         pub reached_few : q + v ≤ cap
         reached_few = omega (arith, column_upto reached)
 
-        pub scan_cut : r < length w → Ends (Spent b) (left - r) (q + v)
+        pub scan_cut : end < length w → Ends (Spent b) (left - end) (q + v)
         unfolding custom
-        scan_cut l = scans_spent _ _ _ cap before R reached columns fits (due r l) (omega (arith, N.upto, F.within))
+        scan_cut l = scans_spent _ _ _ cap before R reached columns fits (due end l) (omega (arith, F.within))
 
-        module _ (whole : length w ≤ r) where
-          pub scan_full : k ≡ length after → Ends (Full b) (left - r) (q + v)
+        module _ (whole : length w ≤ end) where
+          pub scan_full : k ≡ length after → Ends (Full b) (left - end) (q + v)
           unfolding custom
           scan_full full = scans_full _ _ _ cap before R reached columns fits (inl whole) full
 
           -- The window is stored, as y, and left by the shift s.
           pub scan_listed : (k ≡ length after → ⊥) → {y : ℕ} → y ≡ b → {s : ℕ} → s ≡ get_or shifts (length w) 0
-              → InOrder w order text cap before (set after k y) (b + s) (left - r) (q + v) (k + 1)
+              → InOrder w order text cap before (set after k y) (b + s) (left - end) (q + v) (k + 1)
           scan_listed free {y} stored {s} moved =
               let edge = edge_stays order w (length w) b 0 (omega arith) in
               let shift : s ≡ custom_shift w order (length w) = moved ∙ T.shift_at (length w) (omega arith) in

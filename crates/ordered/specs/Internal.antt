@@ -22,12 +22,16 @@ unfoldable pub noholes_among : List ℕ → List ℕ → ℕ → ℕ
 unfolding count nohole
 noholes_among w order i = count i λ j. nohole w (get_or order j 0)
 
--- r is the first rank from 1 on and below an end whose letter differs from the text's in window b, or that end.
+-- The letters of the ranks from 1 on and below an end are the text's in window b.
+pub record Agreed (w order t : List ℕ) (b end : ℕ) : Type 0 where
+  pub same : (i : ℕ) → i < end → 1 ≤ i → letter w (get_or order i 0) ≡ letter t (b + get_or order i 0)
+
+-- r is the first rank from 1 on and below an end whose letter differs from the text's in window b.
 pub record Reaches (w order t : List ℕ) (b end r : ℕ) : Type 0 where
   pub from : 1 ≤ r
-  pub upto : r ≤ end
-  pub same : (i : ℕ) → i < r → 1 ≤ i → letter w (get_or order i 0) ≡ letter t (b + get_or order i 0)
-  pub ends : r < end → letter w (get_or order r 0) ≡ letter t (b + get_or order r 0) → ⊥
+  pub upto : r < end
+  pub agreed : Agreed w order t b r
+  pub differs : letter w (get_or order r 0) ≡ letter t (b + get_or order r 0) → ⊥
 
 -- A pattern's letters, an arrangement of its places, and the tables of this order by rank.
 pub record LentTables (w order shifts among : List ℕ) : Type 0 where

@@ -1,12 +1,12 @@
 // The scan of a text in a custom order, over tables that are lent. Every window begins with rank 0, so that a turn of the loop is a window. It
 // makes exactly the comparisons that it counts, and adds up those at noholes as a window is left, from the rank that it is left with.
-ghost use Rattle.std.specs.Prelude.{◌≡◌, ℕ, ◌+◌, ◌≤◌, ◌<◌, eqb, length, get_or};
+ghost use Rattle.std.specs.Prelude.{◌≡◌, ℕ, ◌+◌, ◌≤◌, ◌<◌, eqb, length, get_or, MatchOption};
 ghost use Rattle.words.specs.Tables.{letter};
 ghost use Rattle.admission.specs.Admitted.{longest_text};
 ghost use Rattle.custom.specs.Custom.{custom};
 ghost use Rattle.intake.specs.Sizes.{longest_pattern};
 ghost use Rattle.rules.specs.Report.{Reported};
-ghost use Rattle.ordered.specs.Internal.{letters_of, MarkedAmong, Reaches, LentTables};
+ghost use Rattle.ordered.specs.Internal.{letters_of, MarkedAmong, Agreed, Reaches, LentTables};
 
 use classes::CLASSES;
 use columns::with_noholes;
@@ -45,19 +45,20 @@ impl<'a> Text<'a> {
     }
 }
 
-// The first rank from 1 on and below `end` whose letter differs from the text's in window b, or `end`.
-fn reach(letters: &[u8], order: &[u8], text: Text, b: usize, end: usize) -> usize
+// The first rank from 1 on and below `end` whose letter differs from the text's in window b.
+fn reach(letters: &[u8], order: &[u8], text: Text, b: usize, end: usize) -> Option<usize>
     requires le_end { (1 ≤ end) × (end ≤ length order.now) × (b + length letters.now ≤ length text.bytes.now) }
     requires by_index { (i : ℕ) → i < length order.now → get_or order.now i 0 < length letters.now }
-    ensures { Reaches letters.now order.now (letters_of text.entry) b end result }
+    ensures { let t = letters_of text.entry in
+        MatchOption result (Agreed letters.now order.now t b end) (λ r. Reaches letters.now order.now t b end r) }
 {
     for i in 1..end {
         let place = order[i] as usize;
         if !text.agrees(letters[place], b + place) {
-            return i;
+            return Some(i);
         }
     }
-    end
+    None
 }
 
 // The whole text.
@@ -99,17 +100,16 @@ pub fn scan(
             continue;
         }
         let end = left.min(m as u64) as usize;
-        let r = reach(letters, order, text, b, end);
-        if r < end {
+        if let Some(r) = reach(letters, order, text, b, end) {
             left -= r as u64 + 1;
             q += among[r + 1] as u64;
             b += shifts[r] as usize;
             continue;
         }
         // All that were compared agree: the cap is spent, or the pattern occurs.
-        left -= r as u64;
-        q += among[r] as u64;
-        if r < m {
+        left -= end as u64;
+        q += among[end] as u64;
+        if end < m {
             return with_noholes(Ending::Spent(b), cap - left, q, k);
         }
         if k == positions.len() {

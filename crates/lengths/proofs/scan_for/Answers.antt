@@ -4,11 +4,13 @@ use Rattle.pattern.proofs.Letters.{text_through}
 use Rattle.lengths.proofs.Lent.{short_enough, letters_are, lent_tables}
 use Rattle.lengths.proofs.scan_for.Goals as goal
 
-pub scan-requires-clause-tables : goal.scan-requires-clause-tables
-scan-requires-clause-tables c =
+pub invariant_of-prefixes : goal.invariant_of-prefixes
+invariant_of-prefixes c =
     let prepared = c.requires.admitted.prepared in
-    lent_tables c.args.pattern.now prepared _ (short_enough _ prepared) c.put_letters.ensures.put _ (omega (arith, short_enough _ prepared))
-    c.fill_hmax.ensures.filled
+    record {
+      tables = lent_tables c.args.pattern.now prepared _ (short_enough _ prepared) c.put_letters.ensures.put _
+          (omega (arith, short_enough _ prepared)) c.fill_hmax.ensures.filled;
+    }
 
 pub returns : goal.returns
 returns c =

@@ -24,19 +24,24 @@ pub record Writes (entry : ℕ → ℕ) (before after : List ℕ) (b s : ℕ) : 
   pub rest : drop (b + s) after ≡ drop (b + s) before
   pub size : length after ≡ length before
 
--- r is the first position from b on that has the letter x, or n. The entries of those before it are 0.
+-- No position from b on and below r has the letter x, and the entries of these are 0.
 pub record Passes (t : List ℕ) (x : ℕ) (before after : List ℕ) (b r : ℕ) : Type 0 where
   pub from : b ≤ r
   pub upto : r ≤ length t
   pub missed : (y : ℕ) → b ≤ y → y < r → x ≡ letter t y → ⊥
-  pub found : r < length t → x ≡ letter t r
   pub zeros : Writes (λ k. 0) before after b (r - b)
+
+-- r is the first position from b on that has the letter x. The entries of those before it are 0.
+pub record Finds (t : List ℕ) (x : ℕ) (before after : List ℕ) (b r : ℕ) : Type 0 where
+  pub passes : Passes t x before after b r
+  pub inside : r < length t
+  pub found : x ≡ letter t r
 
 -- From window b and the matched length i to those at which letters are compared on: the same where something is matched; else a window that begins
 -- with x, with that letter matched, or the text's end.
 abbrev pub Begins : List ℕ → ℕ → List ℕ → List ℕ → ℕ → ℕ → ℕ → ℕ → Type 0
 Begins t x before after b i b' i' = ((1 ≤ i) × (b' ≡ b) × (i' ≡ i) × (after ≡ before))
-    ⊎ ((i ≡ 0) × Passes t x before after b b' × (((b' < length t) × (i' ≡ 1)) ⊎ ((b' ≡ length t) × (i' ≡ 0))))
+    ⊎ ((i ≡ 0) × (((i' ≡ 1) × Finds t x before after b b') ⊎ ((i' ≡ 0) × (b' ≡ length t) × Passes t x before after b b')))
 
 -- r is the first place from i on and below an end whose letter differs from the text's in window b, or that end.
 pub record Extends (w t : List ℕ) (b i end r : ℕ) : Type 0 where

@@ -1,9 +1,7 @@
--- Where nothing is matched, windows are passed.
-use Rattle.std.proofs.Common.{arith, inr}
-use Rattle.lengths.proofs.Loops.{length_letters, matched_there}
+-- Where no window begins with x, all up to the text's end are passed.
+use Rattle.std.proofs.Common.{refl, sym, arith, inr}
+use Rattle.lengths.proofs.Loops.{length_letters}
 use Rattle.lengths.proofs.steps.begin.Goals as goal
 
-pub returns : goal.returns
-returns c =
-    let P = c.pass-window.ensures in
-    inr (omega arith, P, rw (length_letters c.args.text) (matched_there _ _ (omega (arith, P.upto, length_letters c.args.text)) c.from.ensures))
+pub returns-in-None : goal.returns-in-None
+returns-in-None c = inr (omega arith, inr (refl, sym (length_letters c.args.text), c.in-None.ensures))

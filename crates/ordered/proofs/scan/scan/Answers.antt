@@ -33,22 +33,22 @@ loop-b-smaller-then-not-agrees c = omega (arith, shift_on c.requires.lent_tables
 
 -- ---- A later rank misses.
 
-pub overflow_add-q-then-r-end-2 : goal.overflow_add-q-then-r-end-2
-overflow_add-q-then-r-end-2 c =
+pub overflow_add-q-in-Some-2 : goal.overflow_add-q-in-Some-2
+overflow_add-q-in-Some-2 c =
     omega (
       arith,
       left_few c.requires.lent_tables c.loop-b.invariant (omega (arith, length_letters c.args.text)) c.if-not-agrees.ensures
-          c.min-end.ensures c.reach-r.ensures c.if-r-end.true refl,
+          c.min-end.ensures c.in-Some.ensures refl,
     )
 
-pub loop-b-smaller-then-r-end : goal.loop-b-smaller-then-r-end
-loop-b-smaller-then-r-end c =
-    omega (arith, shift_on c.requires.lent_tables c.loop-b.invariant c.reach-r.result _ (omega (arith, c.min-end.ensures)) refl)
+pub loop-b-smaller-in-Some : goal.loop-b-smaller-in-Some
+loop-b-smaller-in-Some c =
+    omega (arith, shift_on c.requires.lent_tables c.loop-b.invariant c.in-Some.r _ (omega (arith, c.min-end.ensures, c.in-Some.ensures.upto)) refl)
 
-pub loop-b-preserved-then-r-end : goal.loop-b-preserved-then-r-end
-loop-b-preserved-then-r-end c =
+pub loop-b-preserved-in-Some : goal.loop-b-preserved-in-Some
+loop-b-preserved-in-Some c =
     scan_left c.requires.lent_tables c.loop-b.invariant (omega (arith, length_letters c.args.text)) c.if-not-agrees.ensures
-    c.min-end.ensures c.reach-r.ensures c.if-r-end.true refl refl
+    c.min-end.ensures c.in-Some.ensures refl refl
 
 -- ---- All that were compared agree.
 
@@ -57,20 +57,20 @@ overflow_add-q-in-loop-b c =
     omega (
       arith,
       reached_few c.requires.lent_tables c.loop-b.invariant (omega (arith, length_letters c.args.text)) c.if-not-agrees.ensures
-          c.min-end.ensures c.reach-r.ensures c.if-r-end.false refl,
+          c.min-end.ensures c.in_default.ensures refl,
     )
 
-pub returns-then-r-m : goal.returns-then-r-m
-returns-then-r-m c =
-    rw c.with_noholes-then-r-m.ensures.answer
+pub returns-then-end-m : goal.returns-then-end-m
+returns-then-end-m c =
+    rw c.with_noholes-then-end-m.ensures.answer
     (scan_cut c.requires.lent_tables c.loop-b.invariant (omega (arith, length_letters c.args.text)) c.if-not-agrees.ensures
-    c.min-end.ensures c.reach-r.ensures c.if-r-end.false refl c.if-r-m.true)
+    c.min-end.ensures c.in_default.ensures refl c.if-end-m.true)
 
 pub returns-then-k-positions : goal.returns-then-k-positions
 returns-then-k-positions c =
     rw c.with_noholes-then-k-positions.ensures.answer
     (scan_full c.requires.lent_tables c.loop-b.invariant (omega (arith, length_letters c.args.text)) c.if-not-agrees.ensures
-    c.min-end.ensures c.reach-r.ensures c.if-r-end.false refl c.if-r-m.false c.if-k-positions.true)
+    c.min-end.ensures c.in_default.ensures refl c.if-end-m.false c.if-k-positions.true)
 
 pub loop-b-smaller : goal.loop-b-smaller
 loop-b-smaller c = omega (arith, shift_on c.requires.lent_tables c.loop-b.invariant (length c.args.letters.now) _ (omega arith) refl)
@@ -78,7 +78,7 @@ loop-b-smaller c = omega (arith, shift_on c.requires.lent_tables c.loop-b.invari
 pub loop-b-preserved : goal.loop-b-preserved
 loop-b-preserved c =
     scan_listed c.requires.lent_tables c.loop-b.invariant (omega (arith, length_letters c.args.text)) c.if-not-agrees.ensures
-    c.min-end.ensures c.reach-r.ensures c.if-r-end.false refl c.if-r-m.false c.if-k-positions.false refl refl
+    c.min-end.ensures c.in_default.ensures refl c.if-end-m.false c.if-k-positions.false refl refl
 
 -- ---- No window is left.
 

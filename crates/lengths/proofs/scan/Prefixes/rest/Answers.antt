@@ -2,24 +2,24 @@
 use Rattle.std.proofs.Common.{◌≡◌, ◌+◌, arith}
 use Rattle.lengths.proofs.Loops.{length_letters}
 use Rattle.lengths.proofs.Scanning.{from_k, first_entry, scans_over, scans_begun, scans_left}
-use Rattle.lengths.proofs.scan.rest.Goals as goal
+use Rattle.lengths.proofs.scan.Prefixes.rest.Goals as goal
 
 pub returns-then-n-window-clause-carries : goal.returns-then-n-window-clause-carries
 returns-then-n-window-clause-carries c before again S =
-    let some = c.requires.tables.some in
+    let some = c.args.self.now.tables.some in
     scans_over _ _ before some (scans_begun _ _ before some (c.loop-b.invariant.scans before again S) c.begin-window.ensures)
     (omega (arith, length_letters c.args.text)) (omega (arith, length_letters c.args.text, S.right.size))
 
 pub leave-s-requires-clause-i_bound : goal.leave-s-requires-clause-i_bound
-leave-s-requires-clause-i_bound c = omega (arith, first_entry c.requires.tables, c.min-end.ensures)
+leave-s-requires-clause-i_bound c = omega (arith, first_entry c.args.self.now.tables, c.min-end.ensures)
 
 pub leave-s-requires-clause-by_index : goal.leave-s-requires-clause-by_index
 leave-s-requires-clause-by_index c k l =
-    from_k c.requires.tables _ (omega (arith, c.min-end.ensures)) k (omega (arith, c.min.ensures))
+    from_k c.args.self.now.tables _ (omega (arith, c.min-end.ensures)) k (omega (arith, c.min.ensures))
 
 pub loop-b-preserved : goal.loop-b-preserved
 loop-b-preserved c =
-    let T = c.requires.tables in
+    let T = c.args.self.now.tables in
     rw c.saturating_sub-i.ensures record {
       scans = λ before again S.
           let sum : again + (c.loop-b.again + c.stays-again.result) ≡ again + c.loop-b.again + c.stays-again.result = omega arith in
@@ -34,5 +34,5 @@ loop-b-preserved c =
 
 pub returns-clause-carries : goal.returns-clause-carries
 returns-clause-carries c before again S =
-    scans_over _ _ before c.requires.tables.some (c.loop-b.invariant.scans before again S) (omega (arith, length_letters c.args.text))
+    scans_over _ _ before c.args.self.now.tables.some (c.loop-b.invariant.scans before again S) (omega (arith, length_letters c.args.text))
     (omega (arith, length_letters c.args.text, S.right.size))

@@ -1,7 +1,7 @@
 -- The one part leads to where the other begins, and all are counted.
 use Rattle.std.proofs.Common.{arith}
 use Rattle.lengths.proofs.Loops.{length_letters}
-use Rattle.lengths.proofs.scan.scan.Goals as goal
+use Rattle.lengths.proofs.scan.Prefixes.scan.Goals as goal
 
 pub rest-more-requires-clause-i_in_bounds : goal.rest-more-requires-clause-i_in_bounds
 rest-more-requires-clause-i_in_bounds c =

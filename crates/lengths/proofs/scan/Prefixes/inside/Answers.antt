@@ -2,22 +2,22 @@
 use Rattle.std.proofs.Common.{◌+◌, sym, arith}
 use Rattle.lengths.proofs.Loops.{length_letters, left_at_once}
 use Rattle.lengths.proofs.Scanning.{from_k, ends_before, first_entry, next_entry, scans_start, scans_begun, scans_left}
-use Rattle.lengths.proofs.scan.inside.Goals as goal
+use Rattle.lengths.proofs.scan.Prefixes.inside.Goals as goal
 
 pub loop-b-init : goal.loop-b-init
-loop-b-init c = record { scans = scans_start _ _ _ c.requires.tables.some; few = omega arith; short = λ l. omega arith }
+loop-b-init c = record { scans = scans_start _ _ _ c.args.self.now.tables.some; few = omega arith; short = λ l. omega arith }
 
 pub returns-then-last-window-clause-scans : goal.returns-then-last-window-clause-scans
-returns-then-last-window-clause-scans c = scans_begun _ _ _ c.requires.tables.some c.loop-b.invariant.scans c.begin-window.ensures
+returns-then-last-window-clause-scans c = scans_begun _ _ _ c.args.self.now.tables.some c.loop-b.invariant.scans c.begin-window.ensures
 
 -- ---- Left by 1, at a glance
 
 pub overflow_sub-i : goal.overflow_sub-i
-overflow_sub-i c = omega (arith, next_entry c.requires.tables)
+overflow_sub-i c = omega (arith, next_entry c.args.self.now.tables)
 
 pub loop-b-preserved-then-r-first : goal.loop-b-preserved-then-r-first
 loop-b-preserved-then-r-first c =
-    let T = c.requires.tables in
+    let T = c.args.self.now.tables in
     let here = ends_before c.windows_inside-last.ensures c.begin-window.result.window (omega arith) in
     let S = scans_begun _ _ _ T.some c.loop-b.invariant.scans c.begin-window.ensures in
     record {
@@ -32,14 +32,14 @@ loop-b-preserved-then-r-first c =
 -- ---- Left by more
 
 pub leave-s-requires-clause-i_bound : goal.leave-s-requires-clause-i_bound
-leave-s-requires-clause-i_bound c = omega (arith, first_entry c.requires.tables)
+leave-s-requires-clause-i_bound c = omega (arith, first_entry c.args.self.now.tables)
 
 pub leave-s-requires-clause-by_index : goal.leave-s-requires-clause-by_index
-leave-s-requires-clause-by_index c k l = from_k c.requires.tables _ c.extend-r.ensures.upto k (omega arith)
+leave-s-requires-clause-by_index c k l = from_k c.args.self.now.tables _ c.extend-r.ensures.upto k (omega arith)
 
 pub loop-b-preserved : goal.loop-b-preserved
 loop-b-preserved c =
-    let T = c.requires.tables in
+    let T = c.args.self.now.tables in
     let here = ends_before c.windows_inside-last.ensures c.begin-window.result.window (omega arith) in
     let S = scans_begun _ _ _ T.some c.loop-b.invariant.scans c.begin-window.ensures in
     rw c.saturating_sub-i.ensures record {

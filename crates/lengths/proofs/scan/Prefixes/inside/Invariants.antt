@@ -3,13 +3,13 @@
 use Rattle.std.proofs.Common.{◌-◌, ◌≤◌, ◌<◌, length}
 use Rattle.lengths.specs.Internal.Steps.{letters_of}
 use Rattle.lengths.specs.Internal.Scan.{Scans}
-use Rattle.lengths.proofs.scan.inside.Given as goal
+use Rattle.lengths.proofs.scan.Prefixes.inside.Given as goal
 
 abbrev pub invariant-loop-b : goal.invariant-loop-b
 invariant-loop-b l = record {
-  scans : Scans l.letters (letters_of l.text) l.fn.lengths l.lengths l.b l.i l.again;
+  scans : Scans l.self.letters.now (letters_of l.text) l.fn.lengths l.lengths l.b l.i l.again;
   few : l.again ≤ l.b;
-  short : 1 < length l.letters → l.i < length l.letters;
+  short : 1 < length l.self.letters.now → l.i < length l.self.letters.now;
 }
 
 abbrev pub decreases-loop-b : goal.decreases-loop-b
