@@ -44,7 +44,6 @@ module _ (p : Pattern) (prepared : IsPrepared p) {letters : List ℕ}
         length_shifts = omega (arith, shifts_length (take p.len letters) order before some short within arrangement filled);
         length_among = omega arith;
         shift_at = shifts_at (take p.len letters) order before some short within arrangement filled;
-        among_at =
-            let marked = rw (letters_are p (F p prepared) put) (F p prepared).marked_at in
-            among_marked (take p.len letters) order p.marks among arrangement short marked counted;
+        among_at = among_marked (take p.len letters) order p.marks among arrangement short
+            (rw (letters_are p (F p prepared) put) (F p prepared).marked_at) counted;
       }

@@ -20,7 +20,8 @@ scan-requires c =
 pub returns : goal.returns
 returns c =
     let told = at_the_door c.args.pattern (length c.args.text.now) c.in_ok-admit.ensures.answer c.is_prepared.ensures.test in
-    record { answer = stop_scanned _ _ told (letters_are _ (fields_of _ (admitted_is _ _ told).prepared) c.letters-letters.ensures.answer) c.scan.ensures }
+    let F = fields_of _ (admitted_is _ _ told).prepared in
+    record { answer = stop_scanned _ _ told (letters_are _ F c.letters-letters.ensures.answer) c.scan.ensures }
 
 pub returns-in_err-admit : goal.returns-in_err-admit
 returns-in_err-admit c =
