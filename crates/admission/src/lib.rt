@@ -1,9 +1,13 @@
-// The door of every search: the two tests that each of them makes first, in one place, and one that some make after them.
+// The door of every search: the two tests that each of them makes first, in one place, one that some make after them, and the letters that they
+// then compare.
 #![tactic(auto)]
+
+mod reading;
 
 ghost use Rattle.std.specs.Prelude.{◌≡◌, true, ◌↔◌, ◌≤◌, IsOk};
 ghost use Rattle.admission.specs.Admitted.{longest_text, judged, also_judged};
 
+pub use reading::letters;
 use refusal::Refusal;
 
 // Document 01's longest record: 2^24 bytes.

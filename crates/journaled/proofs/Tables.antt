@@ -2,22 +2,22 @@
 use Prim.Native.Nat.{ℕ}
 use mathlib.Core.Path.{◌≡◌}
 use mathlib.Core.List.{List}
-use lib.ListN.{length, take}
+use lib.ListN.{length, take, replicate}
+use Rattle.admission.proofs.Mapped.{letters_are}
 use Rattle.checked.specs.Check.{IsPrepared}
 use Rattle.checked.proofs.Reading.{fields_of}
-use Rattle.classes.specs.Classes.{through}
+use Rattle.classes.specs.Classes.{through, letters_in}
 use Rattle.intake.specs.Sizes.{longest_pattern}
 use Rattle.journal.specs.Journal.{written}
-use Rattle.pattern.specs.Letters.{word_of, text_of}
+use Rattle.pattern.specs.Letters.{own_bytes, word_of, text_of}
 use Rattle.pattern.specs.declared.Pattern.{Pattern}
 use Rattle.rules.specs.Colussi.{colussi}
 use Rattle.rules.specs.Report.{Reported}
 use Rattle.rules.specs.declared.Report.{Report}
 use Rattle.search.specs.Internal.ColussiScan.{LentOrder, LentMoves}
-use Rattle.search.specs.Internal.Letters.{LettersOf}
-use Rattle.search.proofs.LentTables.{letters_are, lent_order, lent_moves}
+use Rattle.search.proofs.LentTables.{lent_order, lent_moves}
 
-module _ (p : Pattern) (G : IsPrepared p) {letters : List ℕ} (L : LettersOf p.bytes p.classes p.len longest_pattern letters) where
+module _ (p : Pattern) (G : IsPrepared p) {letters : List ℕ} (L : letters ≡ letters_in (own_bytes p) p.classes (replicate longest_pattern 0)) where
   pub places : LentOrder letters p.order p.len p.noholes
   places = lent_order p (fields_of p G) L
 

@@ -3,36 +3,19 @@
 
 mod scan;
 
-ghost use Rattle.std.specs.Prelude.{◌≡◌, ◌≤◌, length, IfOk};
+ghost use Rattle.std.specs.Prelude.{◌≡◌, length, IfOk};
 ghost use Rattle.classes.specs.Classes.{identity};
-ghost use Rattle.intake.specs.Sizes.{longest_pattern};
 ghost use Rattle.pattern.specs.Letters.{own_bytes, word_of, text_of};
 ghost use Rattle.rules.specs.Colussi.{colussi};
 ghost use Rattle.rules.specs.Report.{Columns};
-ghost use Rattle.search.specs.Internal.Letters.{LettersOf};
 ghost use Rattle.search.specs.Promise.{Located, ListedBy, UnderCeiling, NoZeroCovered};
 ghost use Rattle.journaled.specs.Answer.{answer_of, list_of, journal_in, plain_answer_of, plain_list_of, plain_journal_in};
 ghost use Rattle.journaled.specs.Promise.{AsWithout, Recorded};
 
-use admission::{admit, also};
-use classes::put_letters;
-use pattern::{LONGEST_PATTERN, Pattern};
+use admission::{admit, also, letters};
+use pattern::Pattern;
 use refusal::Refusal;
 pub use rules::{Ending, Report};
-
-// The letters of a pattern, at the start of the list.
-fn letters_of(pattern: &Pattern) -> [u8; LONGEST_PATTERN]
-    requires { pattern.now.len ≤ longest_pattern }
-    ensures { LettersOf pattern.now.bytes pattern.now.classes pattern.now.len longest_pattern result }
-{
-    let mut letters = [0u8; LONGEST_PATTERN];
-    put_letters(
-        &pattern.bytes[..pattern.len],
-        &pattern.classes,
-        &mut letters,
-    );
-    letters
-}
 
 // Searches a text in Colussi's order, with at most `cap` comparisons, and writes an entry of the journal for each: twice its position in the text,
 // plus 1 if equal. The entries past the count are unchanged. The answer and the list are those of `colussi`. Refused, in this order, with list and
@@ -59,6 +42,6 @@ pub fn journaled(
 {
     let door = admit(checked::is_prepared(pattern), text.len());
     also(door, cap <= journal.len() as u64, Refusal::ShortJournal)?;
-    let letters = letters_of(&pattern);
+    let letters = letters(&pattern);
     Ok(scan::scan(&pattern, &letters, text, cap as usize, positions, journal))
 }

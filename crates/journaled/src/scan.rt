@@ -1,19 +1,18 @@
 // The scan of a text in Colussi's order that writes a journal, by the tables of a pattern. It makes exactly the comparisons that it counts, and the
 // count is where the next entry goes. Those at holes are added up as a window is left, from the rank that it is left with: the ranks from d on are
 // theirs.
-ghost use Rattle.std.specs.Prelude.{◌≡◌, ◌+◌, ◌-◌, ◌^◌, ◌≤◌, ◌<◌, eqb, length};
+ghost use Rattle.std.specs.Prelude.{◌≡◌, ◌+◌, ◌-◌, ◌^◌, ◌≤◌, ◌<◌, eqb, length, replicate};
 ghost use Rattle.words.specs.Tables.{letter};
 ghost use Rattle.admission.specs.Admitted.{longest_text};
 ghost use Rattle.checked.specs.Check.{IsPrepared};
-ghost use Rattle.classes.specs.Classes.{through};
+ghost use Rattle.classes.specs.Classes.{through, letters_in};
 ghost use Rattle.columns.specs.Ended.{ended_with};
 ghost use Rattle.intake.specs.Sizes.{longest_pattern};
 ghost use Rattle.journal.specs.Journal.{written};
-ghost use Rattle.pattern.specs.Letters.{word_of, text_of};
+ghost use Rattle.pattern.specs.Letters.{own_bytes, word_of, text_of};
 ghost use Rattle.rules.specs.Colussi.{colussi};
 ghost use Rattle.rules.specs.Report.{Reported};
 ghost use Rattle.search.specs.Internal.ColussiScan.{DueAt};
-ghost use Rattle.search.specs.Internal.Letters.{LettersOf};
 
 use columns::with_holes;
 use pattern::{CLASSES, LONGEST_PATTERN, Pattern};
@@ -55,7 +54,7 @@ pub fn scan(
     journal: &mut [u32],
 ) -> Report
     requires prepared { IsPrepared pattern.now }
-    requires letters { LettersOf pattern.now.bytes pattern.now.classes pattern.now.len longest_pattern letters.now }
+    requires letters { letters.now ≡ letters_in (own_bytes pattern.now) pattern.now.classes (replicate longest_pattern 0) }
     requires room { (length text.now ≤ longest_text) × (cap ≤ length journal.old) }
     ensures reported { Reported (word_of pattern.now) (colussi (word_of pattern.now) (text_of pattern.now text.now) cap (length positions.old)) positions.old positions.new result }
     ensures journal_after { journal.new ≡ written (colussi (word_of pattern.now) (text_of pattern.now text.now) cap (length positions.old)).last.made journal.old }

@@ -15,10 +15,9 @@ ghost use Rattle.rules.specs.Occurs.{occurrences};
 ghost use Rattle.lengths.specs.Answer.{answer_of, list_of, plain_answer_of, plain_list_of};
 ghost use Rattle.lengths.specs.Promise.{EachLongest, WholeWhere};
 
-use admission::{admit, also};
-use classes::put_letters;
+use admission::{admit, also, letters};
 use hmax::fill_hmax;
-use pattern::{LONGEST_PATTERN, Pattern, RANKS};
+use pattern::{Pattern, RANKS};
 use refusal::Refusal;
 use scan::Prefixes;
 use steps::Text;
@@ -31,11 +30,7 @@ fn scan_for(pattern: &Pattern, text: &[u8], lengths: &mut [u16]) -> u64
     ensures value { result ≡ comparisons (word_of pattern.now) (text_of pattern.now text.now) }
     ensures lengths_after { lengths.new ≡ lengths_in (word_of pattern.now) (text_of pattern.now text.now) lengths.old }
 {
-    let m = pattern.len;
-    let bytes = &pattern.bytes[..m];
-    let mut letters = [0u8; LONGEST_PATTERN];
-    put_letters(bytes, &pattern.classes, &mut letters);
-    let letters = &letters[..m];
+    let letters = &letters(pattern)[..pattern.len];
     let mut table = [0u16; RANKS];
     fill_hmax(letters, &mut table);
     let text = Text {

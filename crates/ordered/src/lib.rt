@@ -13,10 +13,9 @@ ghost use Rattle.rules.specs.Report.{Columns, Reported};
 ghost use Rattle.search.specs.Promise.{Located, ListedBy, AsColussi, NoZeroCovered};
 ghost use Rattle.ordered.specs.Answer.{judged, answer_of, list_of, plain_answer_of, plain_list_of};
 
-use admission::admit;
-use classes::put_letters;
+use admission::{admit, letters};
 use custom::{fill_shifts, is_arrangement};
-use pattern::{LONGEST_PATTERN, Pattern, RANKS};
+use pattern::{Pattern, RANKS};
 use refusal::Refusal;
 pub use rules::{Ending, Report};
 use scan::Text;
@@ -42,11 +41,7 @@ fn scan_for(pattern: &Pattern, order: &[u8], text: &[u8], cap: u64, positions: &
     requires arrangement { Arrangement pattern.now.len order.now }
     ensures { Reported (word_of pattern.now) (custom order.now (word_of pattern.now) (text_of pattern.now text.now) cap (length positions.old)) positions.old positions.new result }
 {
-    let m = pattern.len;
-    let bytes = &pattern.bytes[..m];
-    let mut letters = [0u8; LONGEST_PATTERN];
-    put_letters(bytes, &pattern.classes, &mut letters);
-    let letters = &letters[..m];
+    let letters = &letters(pattern)[..pattern.len];
     let mut shifts = [0u16; RANKS];
     fill_shifts(letters, order, &mut shifts);
     let mut among = [0u16; RANKS];

@@ -2,22 +2,15 @@
 use Rattle.std.proofs.Common.{sym, refl}
 use Rattle.std.proofs.lemmas.Result.{err_from_is_err_and}
 use Rattle.admission.proofs.Admitting.{at_the_door, admitted_is}
-use Rattle.checked.proofs.Reading.{fields_of}
 use Rattle.journaled.proofs.Promises.{refused, scanned, let_in_as, promises, door_said}
 use Rattle.journaled.proofs.journaled.Goals as goal
-
-pub letters_of-letters-requires : goal.letters_of-letters-requires
-letters_of-letters-requires c =
-    let door = sym (at_the_door _ _ c.admit-door.ensures.answer c.is_prepared.ensures.test) in
-    let let_in = let_in_as _ _ _ _ (door_said _ _ _ _ c.in_ok-also.ensures.answer refl door) in
-    (fields_of _ (admitted_is _ _ let_in.0).prepared).short
 
 pub scan-requires : goal.scan-requires
 scan-requires c =
     let door = sym (at_the_door _ _ c.admit-door.ensures.answer c.is_prepared.ensures.test) in
     let let_in = let_in_as _ _ _ _ (door_said _ _ _ _ c.in_ok-also.ensures.answer refl door) in
     let I = admitted_is _ _ let_in.0 in
-    record { prepared = I.prepared; letters = c.letters_of-letters.ensures; room = (I.fits, let_in.1) }
+    record { prepared = I.prepared; letters = c.letters-letters.ensures.answer; room = (I.fits, let_in.1) }
 
 pub returns : goal.returns
 returns c =

@@ -2,23 +2,20 @@
 use Rattle.std.proofs.Common.{length, arith}
 use Rattle.std.proofs.lemmas.Result.{err_from_is_err_and}
 use Rattle.admission.proofs.Admitting.{at_the_door, admitted_is}
+use Rattle.admission.proofs.Mapped.{letters_are}
 use Rattle.checked.proofs.Reading.{fields_of}
 use Rattle.rules.specs.Colussi.{colussi}
-use Rattle.search.proofs.LentTables.{letters_are, lent}
+use Rattle.search.proofs.LentTables.{lent}
 use Rattle.search.proofs.Answers.{refused, scanned}
 use Rattle.search.proofs.Promises.{colussi_promises}
 use Rattle.search.proofs.colussi.Goals as goal
-
-pub letters-letters-requires : goal.letters-letters-requires
-letters-letters-requires c =
-    (fields_of _ (admitted_is _ _ (at_the_door c.args.pattern (length c.args.text.now) c.in_ok-admit.ensures.answer c.is_prepared.ensures.test)).prepared).short
 
 pub scan-requires : goal.scan-requires
 scan-requires c =
     let told = at_the_door c.args.pattern (length c.args.text.now) c.in_ok-admit.ensures.answer c.is_prepared.ensures.test in
     let F = fields_of _ (admitted_is _ _ told).prepared in
     record {
-      lent = lent _ F c.letters-letters.ensures;
+      lent = lent _ F c.letters-letters.ensures.answer;
       short = omega (arith, (admitted_is _ _ told).fits);
     }
 
@@ -27,7 +24,7 @@ returns c =
     let told = at_the_door c.args.pattern (length c.args.text.now) c.in_ok-admit.ensures.answer c.is_prepared.ensures.test in
     let F = fields_of _ (admitted_is _ _ told).prepared in
     let P = colussi_promises c.args.pattern _ c.args.cap _
-    (scanned colussi c.args.pattern _ c.args.cap _ told (letters_are _ F c.letters-letters.ensures) c.scan.ensures) in
+    (scanned colussi c.args.pattern _ c.args.cap _ told (letters_are _ F c.letters-letters.ensures.answer) c.scan.ensures) in
     record {
       answer = P.answer;
       list = P.list;

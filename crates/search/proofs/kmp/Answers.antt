@@ -2,9 +2,10 @@
 use Rattle.std.proofs.Common.{length, arith}
 use Rattle.std.proofs.lemmas.Result.{err_from_is_err_and}
 use Rattle.admission.proofs.Admitting.{at_the_door, admitted_is}
+use Rattle.admission.proofs.Mapped.{letters_are}
 use Rattle.checked.proofs.Reading.{fields_of}
 use Rattle.rules.specs.Kmp.{kmp}
-use Rattle.search.proofs.LentTables.{letters_are, kmp_tables, by_rank, noholes_within}
+use Rattle.search.proofs.LentTables.{kmp_tables, by_rank, noholes_within}
 use Rattle.search.proofs.Answers.{refused, scanned}
 use Rattle.search.proofs.Promises.{kmp_promises}
 use Rattle.search.proofs.kmp.Goals as goal
@@ -14,17 +15,13 @@ fill_by_place-requires c =
     let F = fields_of _ (admitted_is _ _ (at_the_door c.args.pattern (length c.args.text.now) c.in_ok-admit.ensures.answer c.is_prepared.ensures.test)).prepared in
     (noholes_within _ F, F.short)
 
-pub letters-letters-requires : goal.letters-letters-requires
-letters-letters-requires c =
-    (fields_of _ (admitted_is _ _ (at_the_door c.args.pattern (length c.args.text.now) c.in_ok-admit.ensures.answer c.is_prepared.ensures.test)).prepared).short
-
 pub scan-requires : goal.scan-requires
 scan-requires c =
     let told = at_the_door c.args.pattern (length c.args.text.now) c.in_ok-admit.ensures.answer c.is_prepared.ensures.test in
     let F = fields_of _ (admitted_is _ _ told).prepared in
     record {
       some = (F.some, F.short);
-      tables = kmp_tables _ F c.letters-letters.ensures (c.fill_by_place.ensures _ (by_rank _ F));
+      tables = kmp_tables _ F c.letters-letters.ensures.answer (c.fill_by_place.ensures _ (by_rank _ F));
       short = omega (arith, (admitted_is _ _ told).fits);
     }
 
@@ -33,7 +30,7 @@ returns c =
     let told = at_the_door c.args.pattern (length c.args.text.now) c.in_ok-admit.ensures.answer c.is_prepared.ensures.test in
     let F = fields_of _ (admitted_is _ _ told).prepared in
     let P = kmp_promises c.args.pattern _ c.args.cap _
-    (scanned kmp c.args.pattern _ c.args.cap _ told (letters_are _ F c.letters-letters.ensures) c.scan.ensures) in
+    (scanned kmp c.args.pattern _ c.args.cap _ told (letters_are _ F c.letters-letters.ensures.answer) c.scan.ensures) in
     record {
       answer = P.answer;
       list = P.list;

@@ -2,28 +2,26 @@
 use Rattle.std.proofs.Common.{sym, length, arith}
 use Rattle.std.proofs.lemmas.Result.{err_from_is_err_and}
 use Rattle.admission.proofs.Admitting.{at_the_door, admitted_is}
+use Rattle.admission.proofs.Mapped.{letters_are}
 use Rattle.checked.proofs.Reading.{fields_of}
-use Rattle.search.proofs.LentTables.{letters_are, lent}
+use Rattle.search.proofs.LentTables.{lent}
 use Rattle.search.proofs.Stops.{stop_refused, stop_scanned}
 use Rattle.search.proofs.upto_first.Goals as goal
-
-pub letters-letters-requires : goal.letters-letters-requires
-letters-letters-requires c =
-    (fields_of _ (admitted_is _ _ (at_the_door c.args.pattern (length c.args.text.now) c.in_ok-admit.ensures.answer c.is_prepared.ensures.test)).prepared).short
 
 pub scan-requires : goal.scan-requires
 scan-requires c =
     let told = at_the_door c.args.pattern (length c.args.text.now) c.in_ok-admit.ensures.answer c.is_prepared.ensures.test in
     let F = fields_of _ (admitted_is _ _ told).prepared in
     record {
-      lent = lent _ F c.letters-letters.ensures;
+      lent = lent _ F c.letters-letters.ensures.answer;
       short = omega (arith, (admitted_is _ _ told).fits);
     }
 
 pub returns : goal.returns
 returns c =
     let told = at_the_door c.args.pattern (length c.args.text.now) c.in_ok-admit.ensures.answer c.is_prepared.ensures.test in
-    record { answer = stop_scanned _ _ told (letters_are _ (fields_of _ (admitted_is _ _ told).prepared) c.letters-letters.ensures) c.scan.ensures }
+    let F = fields_of _ (admitted_is _ _ told).prepared in
+    record { answer = stop_scanned _ _ told (letters_are _ F c.letters-letters.ensures.answer) c.scan.ensures }
 
 pub returns-in_err-admit : goal.returns-in_err-admit
 returns-in_err-admit c =
