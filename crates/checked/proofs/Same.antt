@@ -1,7 +1,7 @@
 -- same_list and same_pattern decide equality, and how a loop tests for it. Assumes nothing.
 use Prim.Native.Nat.{ℕ, suc, ◌+◌, ◌≤◌, ◌<◌}
 use mathlib.Core.Path.{◌≡◌, refl, sym, ap, ◌∙◌}
-use mathlib.Core.Logic.{◌↔◌}
+use mathlib.Core.Logic.{◌↔◌, ⊎_elim}
 use mathlib.Core.Bool.{Bool, true, false, ◌&&◌, and_assoc, and-true}
 use mathlib.Core.List.{List, [], ◌∷◌}
 use native.Mathlib.Numerals.{add-one}
@@ -10,7 +10,7 @@ use lib.Pointwise.{pointwise}
 use lib.ListN.{length, get_or, drop, drop_of_length-le}
 use lib.Seq.{drop-cons}
 use borrow.Author.Tests.{eq-eqb, eqb-true}
-use Rattle.words.proofs.Cases.{both_true, not_both}
+use Rattle.words.proofs.Cases.{true_or_false, both_true, not_both}
 use Rattle.checked.specs.Check.{same_list, same_tables, same_pattern}
 use Rattle.pattern.specs.declared.Pattern.{Pattern}
 
@@ -29,6 +29,9 @@ same_self : (a : List ℕ) → same_list a a ≡ true
 unfolding same_list
 same_self [] = refl
 same_self (x ∷ s) = rw (eq-eqb x x refl) (same_self s)
+
+pub other_lengths : (a b : List ℕ) → (length a ≡ length b → ⊥) → false ≡ same_list a b
+other_lengths a b n = ⊎_elim (λ e. absurd (n (ap length (same_is a b e)))) (λ e. sym e) (true_or_false (same_list a b))
 
 -- As any entries are compared that have an equality of their own.
 pub pointwise_is : (a b : List ℕ) → pointwise eqb a b ≡ same_list a b

@@ -45,7 +45,11 @@ module _ (s : List ℕ) (i v : ℕ) where
   pub kept_store : {n : ℕ} {before : List ℕ} → i < n → KeptFrom n before s → KeptFrom n before (set s i v)
   kept_store {n} l K = record { rest = drop-set-lt n s i v l ∙ K.rest; size = length-set s i v ∙ K.size }
 
-  -- A store at the end of the table of hmax makes it longer.
+  -- A store past the table of hmax keeps it,
+  pub hmax_kept : (w : List ℕ) (n : ℕ) → n ≤ i → HasHmax w s n → HasHmax w (set s i v) n
+  hmax_kept w n l H k h = get_or-set_other s i k v 0 (λ e. omega arith) ∙ H k h
+
+  -- and one at its end makes it longer.
   pub hmax_store : (w : List ℕ) → i < length s → v ≡ hmax w i → HasHmax w s i → HasHmax w (set s i v) (i + 1)
   hmax_store w l e H k h = after_store (λ x. x ≡ hmax w k) k l (λ same. e ∙ ap (hmax w) (sym same)) (λ other. H k (omega arith))
 

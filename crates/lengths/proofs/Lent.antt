@@ -1,10 +1,11 @@
--- The table that a scan is lent, with the letters of a prepared pattern. Assumes nothing.
+-- The table that a scan is lent. Assumes nothing.
 use Prim.Native.Nat.{ℕ, ◌≤◌, ◌<◌}
 use mathlib.Core.Path.{◌≡◌}
 use mathlib.Core.List.{List}
 use native.Mathlib.Omega.{arith}
 use lib.ListN.{length, take, replicate}
-use Rattle.admission.proofs.Mapped.{length_taken}
+use lib.Seq.{length-take-le}
+use Rattle.admission.proofs.Mapped.{length_letters}
 use Rattle.checked.specs.Check.{IsPrepared}
 use Rattle.checked.proofs.Reading.{Fields, fields_of}
 use Rattle.classes.specs.Classes.{letters_in}
@@ -16,6 +17,21 @@ use Rattle.pattern.specs.Letters.{own_bytes}
 use Rattle.pattern.specs.declared.Pattern.{Pattern}
 use Rattle.lengths.specs.Internal.Steps.{Tables}
 
+-- A table filled for the first m letters.
+pub lent_tables : (letters before : List ℕ) (m : ℕ) → 1 ≤ m → m ≤ longest_pattern → m ≤ length letters → m < length before
+    → {table : List ℕ} → table ≡ table_after (take m letters) before → Tables (take m letters) table
+lent_tables letters before m some short upto room e =
+    let taken : length (take m letters) ≡ m = length-take-le m letters upto in
+    let R : Room (take m letters) before = record { some = omega arith; entries = omega arith; small = omega arith } in
+    record {
+      some = omega arith;
+      short = omega arith;
+      room = omega (arith, (after_kept (take m letters) before R e).size);
+      known = after_known (take m letters) before R e;
+    }
+
+-- ---- Of a prepared pattern
+
 module _ (p : Pattern) (prepared : IsPrepared p) where
   F : Fields p
   F = fields_of p prepared
@@ -23,22 +39,7 @@ module _ (p : Pattern) (prepared : IsPrepared p) where
   pub short_enough : p.len ≤ longest_pattern
   short_enough = F.short
 
-module _ (p : Pattern) (prepared : IsPrepared p) {letters : List ℕ}
-    (put : letters ≡ letters_in (own_bytes p) p.classes (replicate longest_pattern 0)) where
-  -- The table, as it was filled for them.
-  pub lent_tables : (before : List ℕ) {table : List ℕ} → p.len < length before → table ≡ table_after (take p.len letters) before
-      → Tables (take p.len letters) table
-  lent_tables before wide e =
-      let fields = F p prepared in
-      let taken : length (take p.len letters) ≡ p.len = length_taken p fields put in
-      let R : Room (take p.len letters) before = record {
-        some = omega (arith, fields.some);
-        entries = omega arith;
-        small = omega (arith, fields.short);
-      } in
-      record {
-        some = omega (arith, fields.some);
-        short = omega (arith, fields.short);
-        room = omega (arith, (after_kept (take p.len letters) before R e).size);
-        known = after_known (take p.len letters) before R e;
-      }
+  pub own_tables : {letters : List ℕ} → letters ≡ letters_in (own_bytes p) p.classes (replicate longest_pattern 0) → (before : List ℕ)
+      → p.len < length before → {table : List ℕ} → table ≡ table_after (take p.len letters) before → Tables (take p.len letters) table
+  own_tables {letters} put before room =
+      lent_tables letters before p.len F.some F.short (omega (arith, F.short, length_letters p F put)) room

@@ -6,17 +6,14 @@ use job::{BUFFER, LIST, LONGEST_TEXT};
 use std::io;
 
 fn show(rt: &impl Print, what: &str, input: &[u8]) -> io::Result<()> {
-    println!(rt; "-- {what}")?;
     let mut out = [0u8; BUFFER];
+    println!(rt; "-- {what}")?;
     match job::job(input, &mut out) {
         Ok(written) => {
-            for line in out[..written]
-                .split_inclusive(|byte| *byte == b'\n')
-                .take(4)
-            {
-                rt.write_all(line)?;
-            }
-            Ok(())
+            // Its first four lines, in one write.
+            let mut ends = (0..written).filter(|at| out[*at] == b'\n');
+            let end = ends.nth(3).map_or(written, |at| at + 1);
+            rt.write_all(&out[..end])
         }
         Err(why) => println!(rt; "{why}"),
     }

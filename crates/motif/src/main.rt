@@ -25,13 +25,13 @@ fn read_all<R: Read>(reader: &mut R, buf: &mut [u8]) -> io::Result<usize>
     Ok(n)
 }
 
-// A complaint that cannot be written is lost.
-fn complain<W: Write>(stderr: &mut W, complaint: impl Display + Drop) {
-    let _ = writeln!(stderr, "motif: {complaint}");
+// A complaint goes out in one write. One that cannot be written is lost.
+fn complain(stderr: &impl Eprint, complaint: impl Display + Drop) {
+    let _ = eprintln!(stderr; "motif: {complaint}");
 }
 
 // The answer to an input, written by way of a buffer.
-fn answer<W: Write, E: Write>(stdout: &mut W, stderr: &mut E, input: &[u8], out: &mut [u8]) {
+fn answer<W: Write>(stdout: &mut W, stderr: &impl Eprint, input: &[u8], out: &mut [u8]) {
     match job::job(input, out) {
         Ok(n) => {
             if stdout.write_all(&out[..n]).is_err() {
@@ -42,10 +42,10 @@ fn answer<W: Write, E: Write>(stdout: &mut W, stderr: &mut E, input: &[u8], out:
     }
 }
 
-fn serve<R: Read, W: Write, E: Write>(
+fn serve<R: Read, W: Write>(
     stdin: &mut R,
     stdout: &mut W,
-    stderr: &mut E,
+    stderr: &impl Eprint,
     input: &mut [u8],
     out: &mut [u8],
 ) {
@@ -65,7 +65,7 @@ fn main(rt: HostRuntime) {
     serve(
         &mut rt.stdin(),
         &mut rt.stdout(),
-        &mut rt.stderr(),
+        &rt.stderr(),
         &mut input,
         &mut out,
     );

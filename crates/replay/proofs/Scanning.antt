@@ -56,6 +56,11 @@ replays_start letters m d n size journal before = ⊎_elim
       begins = begins_start _ journal;
     }
 
+-- The same of whatever pattern the tables are. So no letter is asked for.
+abbrev pub ReplaysFor : List ℕ → List ℕ → List ℕ → ℕ → ℕ → ℕ → ℕ → List ℕ → List ℕ → List ℕ → ℕ → ℕ → ℕ → ℕ → ℕ → ℕ → Type 0
+ReplaysFor order shifts nexts m d n size journal before after b i e c h k = (letters : List ℕ) → LentOrder letters order m d
+    → LentMoves letters shifts nexts m → Replays letters m d n size journal before after b i e c h k
+
 module _ (letters order : List ℕ) (m d : ℕ) (T : LentOrder letters order m d) {n size : ℕ} {journal before after : List ℕ} {b i e c h k : ℕ}
     (F : Replays letters m d n size journal before after b i e c h k) where
   abbrev w : List ℕ

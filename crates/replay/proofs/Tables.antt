@@ -1,4 +1,4 @@
--- The tables of a prepared pattern are those of its letters. Assumes nothing.
+-- The tables of a prepared pattern as a pass is lent them: those of its letters. Assumes nothing.
 use Prim.Native.Nat.{ℕ}
 use mathlib.Core.Path.{◌≡◌, refl, sym, ap, ◌∙◌}
 use mathlib.Core.List.{List, [], ◌∷◌, ◌++◌}
@@ -6,24 +6,26 @@ use native.Mathlib.Omega.{arith}
 use lib.ListN.{length, take}
 use lib.Seq.{take-length}
 use Rattle.std.specs.Prelude.{Option}
-use Rattle.checked.specs.Check.{IsPrepared}
-use Rattle.checked.proofs.Reading.{fields_of}
+use Rattle.checked.proofs.Reading.{Fields}
 use Rattle.pattern.specs.Letters.{word_of}
 use Rattle.pattern.specs.declared.Pattern.{Pattern}
 use Rattle.rules.specs.declared.Report.{Report}
 use Rattle.search.specs.Internal.ColussiScan.{LentOrder, LentMoves}
 use Rattle.search.proofs.LentTables.{order_of, moves_of}
-use Rattle.replay.specs.Internal.{Followed, FollowedFor}
+use Rattle.replay.specs.Internal.{Lent, Followed, FollowedFor}
 
-module _ (p : Pattern) (G : IsPrepared p) where
+module _ (p : Pattern) (F : Fields p) where
   whole : take p.len (word_of p) ≡ word_of p
-  whole = ap (λ m. take m (word_of p)) (sym (fields_of p G).word) ∙ take-length (word_of p)
+  whole = ap (λ m. take m (word_of p)) (sym F.word) ∙ take-length (word_of p)
 
   pub places : LentOrder (word_of p) p.order p.len p.noholes
-  places = order_of p (fields_of p G) whole (omega (arith, (fields_of p G).word))
+  places = order_of p F whole (omega (arith, F.word))
 
   pub moves : LentMoves (word_of p) p.shift p.next p.len
-  moves = moves_of p (fields_of p G) whole (omega (arith, (fields_of p G).word))
+  moves = moves_of p F whole (omega (arith, F.word))
+
+  pub lent_tables : Lent p.order p.shift p.next p.len p.noholes
+  lent_tables = record { letters = word_of p; places = places; moves = moves }
 
   -- What a pass tells of the letters that it goes by, it tells of the pattern's.
   pub of_whole : (n size : ℕ) (journal before after : List ℕ) (answer : Option Report)

@@ -5,6 +5,12 @@ use Rattle.rules.specs.Report.{report_of, filled}
 use Rattle.rules.specs.declared.Report.{Report}
 use Rattle.search.specs.Internal.ColussiScan.{LentOrder, LentMoves}
 
+-- The tables are some pattern's: those of the first m of some letters.
+pub record Lent (order shifts nexts : List ℕ) (m d : ℕ) : Type 0 where
+  pub letters : List ℕ
+  pub places : LentOrder letters order m d
+  pub moves : LentMoves letters shifts nexts m
+
 -- What a pass over a journal that is accepted for the pattern w tells: the report of its replay with a list of a size. A list of that size is filled;
 -- what a shorter one then holds is not told.
 pub record Accepting (w : List ℕ) (n size : ℕ) (journal before after : List ℕ) (report : Report) : Type 0 where

@@ -1,15 +1,12 @@
 // A pass over a journal by the rules of Colussi's order, by the tables of a pattern. The answers are the journal's, and neither the text nor the
 // pattern's letters are asked for. Comparisons at holes are added up as a window is left, from the rank that it is left with: the ranks from d on are
 // theirs.
-ghost use Rattle.std.specs.Prelude.{◌≡◌, ◌≢◌, ◌+◌, ◌-◌, ◌^◌, ◌≤◌, ◌<◌, MatchOption, false, length};
+ghost use Rattle.std.specs.Prelude.{◌≡◌, ◌≢◌, ◌+◌, ◌-◌, ◌^◌, ◌≤◌, ◌<◌, MatchOption, length};
 ghost use Rattle.admission.specs.Admitted.{longest_text};
-ghost use Rattle.checked.specs.Check.{IsPrepared};
 ghost use Rattle.columns.specs.Ended.{ended_with};
 ghost use Rattle.intake.specs.Sizes.{longest_pattern};
-ghost use Rattle.journal.specs.Replay.{accepted};
-ghost use Rattle.pattern.specs.Letters.{word_of};
 ghost use Rattle.search.specs.Internal.ColussiScan.{DueAt};
-ghost use Rattle.replay.specs.Internal.{Accepting};
+ghost use Rattle.replay.specs.Internal.{Lent, FollowedFor};
 
 use columns::with_holes;
 use pattern::Pattern;
@@ -38,8 +35,9 @@ fn if_all_read(report: Report, c: usize, journal: &[u32]) -> Option<Report>
     (c == journal.len()).then_some(report)
 }
 
-// The pass for a text of n bytes and a list of so many entries: its report, if the journal is accepted. Positions are written as far as the lent list
-// goes: with an empty one the pass only follows, and where it is inlined it then adds nothing up.
+// The pass for a text of n bytes and a list of so many entries: its report, if the journal is accepted. What it tells holds of whatever pattern has
+// these tables. Positions are written as far as the lent list goes: with an empty one the pass only follows, and where it is inlined it then adds
+// nothing up.
 #[inline]
 pub fn follow(
     pattern: &Pattern,
@@ -48,9 +46,9 @@ pub fn follow(
     journal: &[u32],
     positions: &mut [u32],
 ) -> Option<Report>
-    requires prepared { IsPrepared pattern.now }
+    requires lent { Lent pattern.now.order pattern.now.shift pattern.now.next pattern.now.len pattern.now.noholes }
     requires n_le_longest_text { n ≤ longest_text }
-    ensures { MatchOption result (accepted (word_of pattern.now) n journal.now size ≡ false) (Accepting (word_of pattern.now) n size journal.now positions.old positions.new) }
+    ensures { FollowedFor pattern.now.order pattern.now.shift pattern.now.next pattern.now.len pattern.now.noholes n size journal.now positions.old positions.new result }
 {
     let m = pattern.len;
     let d = pattern.noholes;

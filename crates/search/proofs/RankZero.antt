@@ -27,17 +27,15 @@ module _ {text : List ℕ} {x a p : ℕ} (P : Passed text x a p) where
   pub passed_one : {q : ℕ} → q ≡ p + 1 → (x ≡ letter text p → ⊥) → Passed text x a q
   passed_one e miss = record { none = rw e (below_more _ p P.none (λ h same. miss (sym same))) }
 
-  -- A skip ends there, or goes on from there.
+  -- A skip ends there, or goes on from there, to its end or to the first place that does.
   pub skips_to : {b : ℕ} → a ≤ p → p < b → x ≡ letter text p → FirstAt text x a b p
   skips_to l h is = record { from = l; upto = h; passed = P; found = sym is }
 
+  pub passed_on : {b : ℕ} → Passed text x p b → Passed text x a b
+  passed_on S = record { none = λ k below g. ⊎_elim (λ (h : k < p). P.none k h g) (λ (h : p ≤ k). S.none k below h) (less_or k p) }
+
   pub skips_on : {b r : ℕ} → a ≤ p → FirstAt text x p b r → FirstAt text x a b r
-  skips_on l S = record {
-    from = omega (arith, S.from);
-    upto = S.upto;
-    passed = record { none = λ k below g. ⊎_elim (λ (h : k < p). P.none k h g) (λ (h : p ≤ k). S.passed.none k below h) (less_or k p) };
-    found = S.found;
-  }
+  skips_on l S = record { from = omega (arith, S.from); upto = S.upto; passed = passed_on S.passed; found = S.found }
 
 -- Window b matches at once.
 pub ahead_at_once : (text : List ℕ) (x o last b left : ℕ) → b ≤ last → 1 ≤ left → get_or text (b + o) 0 ≡ x

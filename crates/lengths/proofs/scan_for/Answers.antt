@@ -3,7 +3,7 @@ use Rattle.std.proofs.Common.{sym, arith}
 use Rattle.admission.proofs.Mapped.{letters_are, length_taken}
 use Rattle.checked.proofs.Reading.{fields_of}
 use Rattle.pattern.proofs.Letters.{text_through}
-use Rattle.lengths.proofs.Lent.{short_enough, lent_tables}
+use Rattle.lengths.proofs.Lent.{short_enough, own_tables}
 use Rattle.lengths.proofs.scan_for.Goals as goal
 
 pub slice_bounds-letters-end-2 : goal.slice_bounds-letters-end-2
@@ -13,7 +13,7 @@ pub invariant_of-prefixes : goal.invariant_of-prefixes
 invariant_of-prefixes c =
     let prepared = c.requires.admitted.prepared in
     record {
-      tables = lent_tables c.args.pattern.now prepared c.letters.ensures.answer _ (omega (arith, short_enough _ prepared)) c.fill_hmax.ensures.filled;
+      tables = own_tables c.args.pattern.now prepared c.letters.ensures.answer _ (omega (arith, short_enough _ prepared)) c.fill_hmax.ensures.filled;
     }
 
 pub returns : goal.returns

@@ -1,5 +1,5 @@
 -- Each entry is the ones of so many words, which are few enough to fit.
-use Rattle.std.proofs.Common.{◌≡◌, arith}
+use Rattle.std.proofs.Common.{◌≡◌, rules, arith}
 use Rattle.ones.proofs.Counting.{none_stored, next_stored, stored_le, all_stored}
 use Rattle.ones.proofs.whole_words.Goals as goal
 
@@ -10,7 +10,7 @@ pub overflow_add-whole : goal.overflow_add-whole
 overflow_add-whole c = record { fits = omega (arith, stored_le c.args.marks.now c.loop-i.whole c.loop-i.i c.loop-i.invariant) }
 
 pub loop-i-preserved : goal.loop-i-preserved
-loop-i-preserved c = next_stored c.args.marks.now c.loop-i.whole c.loop-i.i _ (omega arith) c.ones_of.ensures.0 c.loop-i.invariant
+loop-i-preserved c = next_stored c.args.marks.now c.loop-i.whole c.loop-i.i _ (omega arith) (search (rules, arith)) c.loop-i.invariant
 
 pub returns : goal.returns
 returns c =

@@ -3,7 +3,7 @@ use Rattle.std.proofs.Common.{sym, arith}
 use Rattle.admission.proofs.Mapped.{letters_are, length_taken}
 use Rattle.checked.proofs.Reading.{fields_of}
 use Rattle.pattern.proofs.Letters.{text_through}
-use Rattle.ordered.proofs.Lent.{lent_tables}
+use Rattle.ordered.proofs.Lent.{own_tables}
 use Rattle.ordered.proofs.scan_for.Goals as goal
 
 pub slice_bounds-letters-end-2 : goal.slice_bounds-letters-end-2
@@ -12,7 +12,7 @@ slice_bounds-letters-end-2 c = sym (length_taken c.args.pattern.now (fields_of _
 pub scan-requires-clause-lent_tables : goal.scan-requires-clause-lent_tables
 scan-requires-clause-lent_tables c =
     let short = (fields_of c.args.pattern.now c.requires.admitted.prepared).short in
-    lent_tables c.args.pattern.now c.requires.admitted.prepared c.letters.ensures.answer _ c.requires.arrangement
+    own_tables c.args.pattern.now c.requires.admitted.prepared c.letters.ensures.answer _ c.requires.arrangement
     (omega (arith, short)) (omega (arith, short)) c.fill_shifts.ensures.filled c.fill_among.ensures
 
 pub returns : goal.returns

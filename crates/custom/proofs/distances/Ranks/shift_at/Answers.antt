@@ -1,5 +1,5 @@
 -- Each distance is rejected by the present mismatch or by an earlier match, or it is the shift.
-use Rattle.std.proofs.Common.{sym, ◌∙◌, arith}
+use Rattle.std.proofs.Common.{sym, arith}
 use Rattle.custom.proofs.Trying.{rejected_at_once, tests_reject, tests_end, tries_end}
 use Rattle.custom.proofs.distances.Ranks.shift_at.Goals as goal
 
